@@ -1,0 +1,10 @@
+pub mod RangeLaws
+pub mod PairLaws
+pub mod DiagramLaws
+pub mod HeldLaws
+pub mod SettleLaws
+pub mod OrderLaws
+pub mod CountLaws
+pub mod ValueLaws
+pub mod ControlLaws
+pub mod BookLaws

@@ -1,0 +1,149 @@
+-- The order of counts, and the best and the worst of several.
+use Prim.Native.Nat.{ℕ, zero, suc, _+_, _≤_, _<_}
+use mathlib.Core.Path.{_≡_, refl, ap}
+use mathlib.Core.Logic.{_⊎_, inl, inr}
+use native.Mathlib.Omega.{arith}
+use Rattle.std.proofs.shelf.Tests.{cases-eq, cases-lt, cases-order}
+use Rattle.arena.specs.declared.count.Count.{Count}
+use Rattle.arena.specs.declared.count.Count.the-variants.{Lost, Limited, Unlimited}
+use Rattle.arena.specs.Count.{At-most, Below, plus, Most, Least}
+
+-- ---- the order
+
+pub at-most-refl : (c : Count) → At-most c c
+unfolding At-most
+at-most-refl Lost = tt
+at-most-refl (Limited k) = omega arith
+at-most-refl Unlimited = tt
+
+pub at-most-trans : (c d e : Count) → At-most c d → At-most d e → At-most c e
+unfolding At-most
+at-most-trans Lost d e h l = tt
+at-most-trans (Limited k) Lost e h l = absurd h
+at-most-trans (Limited k) (Limited j) Lost h l = absurd l
+at-most-trans (Limited k) (Limited j) (Limited i) h l = omega arith
+at-most-trans (Limited k) (Limited j) Unlimited h l = tt
+at-most-trans (Limited k) Unlimited Lost h l = absurd l
+at-most-trans (Limited k) Unlimited (Limited i) h l = absurd l
+at-most-trans (Limited k) Unlimited Unlimited h l = tt
+at-most-trans Unlimited Lost e h l = absurd h
+at-most-trans Unlimited (Limited j) e h l = absurd h
+at-most-trans Unlimited Unlimited e h l = l
+
+pub at-most-antisym : (c d : Count) → At-most c d → At-most d c → c ≡ d
+unfolding At-most
+at-most-antisym Lost Lost h l = refl
+at-most-antisym Lost (Limited j) h l = absurd l
+at-most-antisym Lost Unlimited h l = absurd l
+at-most-antisym (Limited k) Lost h l = absurd h
+at-most-antisym (Limited k) (Limited j) h l = let e : k ≡ j = omega arith in ap Limited e
+at-most-antisym (Limited k) Unlimited h l = absurd l
+at-most-antisym Unlimited Lost h l = absurd h
+at-most-antisym Unlimited (Limited j) h l = absurd h
+at-most-antisym Unlimited Unlimited h l = refl
+
+pub cases-count : (c d : Count) → (At-most c d) ⊎ (Below d c)
+unfolding At-most
+cases-count Lost d = inl tt
+cases-count (Limited k) Lost = inr (λ h. h)
+cases-count (Limited k) (Limited j) = elim (cases-lt j k) [ inl l ↦ inr (λ h. omega arith) | inr l ↦ inl l ]
+cases-count (Limited k) Unlimited = inl tt
+cases-count Unlimited Lost = inr (λ h. h)
+cases-count Unlimited (Limited j) = inr (λ h. h)
+cases-count Unlimited Unlimited = inl tt
+
+pub below-at-most : (c d : Count) → Below c d → At-most c d
+unfolding At-most
+below-at-most Lost d h = tt
+below-at-most (Limited k) Lost h = h tt
+below-at-most (Limited k) (Limited j) h = elim (cases-lt j k) [ inl l ↦ absurd (h (omega arith)) | inr l ↦ l ]
+below-at-most (Limited k) Unlimited h = tt
+below-at-most Unlimited Lost h = h tt
+below-at-most Unlimited (Limited j) h = h tt
+below-at-most Unlimited Unlimited h = tt
+
+-- ---- rounds more
+
+pub plus-none : (c : Count) → plus c 0 ≡ c
+unfolding plus
+plus-none Lost = refl
+plus-none (Limited k) = let e : k + 0 ≡ k = omega arith in ap Limited e
+plus-none Unlimited = refl
+
+pub plus-plus : (c : Count) (j k : ℕ) → plus (plus c j) k ≡ plus c (j + k)
+unfolding plus
+plus-plus Lost zero zero = refl
+plus-plus Lost zero (suc k) = let e : suc k ≡ 0 + suc k = omega arith in ap (plus Lost) e
+plus-plus Lost (suc j) k = let e : suc (j + k) ≡ suc j + k = omega arith in ap (plus Lost) e
+plus-plus (Limited n) j k = let e : (n + j) + k ≡ n + (j + k) = omega arith in ap Limited e
+plus-plus Unlimited j k = refl
+
+pub plus-at-most : (c d : Count) (k : ℕ) → At-most c d → At-most (plus c k) (plus d k)
+unfolding At-most plus
+plus-at-most Lost Lost zero h = tt
+plus-at-most Lost Lost (suc k) h = omega arith
+plus-at-most Lost (Limited j) zero h = tt
+plus-at-most Lost (Limited j) (suc k) h = omega arith
+plus-at-most Lost Unlimited zero h = tt
+plus-at-most Lost Unlimited (suc k) h = tt
+plus-at-most (Limited i) Lost k h = absurd h
+plus-at-most (Limited i) (Limited j) k h = omega arith
+plus-at-most (Limited i) Unlimited k h = tt
+plus-at-most Unlimited Lost k h = absurd h
+plus-at-most Unlimited (Limited j) k h = absurd h
+plus-at-most Unlimited Unlimited k h = tt
+
+-- ---- the best and the worst
+
+-- the lowest of the greatest counts below n + 1
+pub some-most : (f : ℕ → Count) (n : ℕ) → (y : ℕ) × Most (suc n) f y
+some-most f zero = (0, record { here = omega arith; most = λ z l. (let e : z ≡ 0 = omega arith in rw e (at-most-refl (f 0))); lowest = λ z l. absurd (omega arith) })
+some-most f (suc n) =
+    let g = some-most f n in
+    elim (cases-count (f (suc n)) (f (g .0))) [
+      | inl h ↦ (g .0, record {
+        here = omega (arith, g .1 .here);
+        most = λ z l. elim (cases-eq z (suc n)) [ inl e ↦ rw e h | inr ne ↦ g .1 .most z (omega arith) ];
+        lowest = g .1 .lowest;
+      })
+      | inr h ↦ (suc n, record {
+        here = omega arith;
+        most = λ z l. elim (cases-eq z (suc n)) [
+          | inl e ↦ rw e (at-most-refl (f (suc n)))
+          | inr ne ↦ at-most-trans (f z) (f (g .0)) (f (suc n)) (g .1 .most z (omega arith)) (below-at-most _ _ h)
+        ];
+        lowest = λ z l k. h (at-most-trans (f (suc n)) (f z) (f (g .0)) k (g .1 .most z l));
+      })
+    ]
+
+pub some-least : (f : ℕ → Count) (n : ℕ) → (x : ℕ) × Least (suc n) f x
+some-least f zero = (0, record { here = omega arith; least = λ z l. (let e : z ≡ 0 = omega arith in rw e (at-most-refl (f 0))); lowest = λ z l. absurd (omega arith) })
+some-least f (suc n) =
+    let g = some-least f n in
+    elim (cases-count (f (g .0)) (f (suc n))) [
+      | inl h ↦ (g .0, record {
+        here = omega (arith, g .1 .here);
+        least = λ z l. elim (cases-eq z (suc n)) [ inl e ↦ rw e h | inr ne ↦ g .1 .least z (omega arith) ];
+        lowest = g .1 .lowest;
+      })
+      | inr h ↦ (suc n, record {
+        here = omega arith;
+        least = λ z l. elim (cases-eq z (suc n)) [
+          | inl e ↦ rw e (at-most-refl (f (suc n)))
+          | inr ne ↦ at-most-trans (f (suc n)) (f (g .0)) (f z) (below-at-most _ _ h) (g .1 .least z (omega arith))
+        ];
+        lowest = λ z l k. h (at-most-trans (f (g .0)) (f z) (f (suc n)) (g .1 .least z l) k);
+      })
+    ]
+
+pub most-once : (m : ℕ) (f : ℕ → Count) (y z : ℕ) → Most m f y → Most m f z → y ≡ z
+most-once m f y z s t = elim (cases-order y z) [
+  | inl e ↦ e
+  | inr o ↦ elim o [ inl l ↦ absurd (t .lowest y l (s .most z (t .here))) | inr l ↦ absurd (s .lowest z l (t .most y (s .here))) ]
+]
+
+pub least-once : (m : ℕ) (f : ℕ → Count) (x z : ℕ) → Least m f x → Least m f z → x ≡ z
+least-once m f x z s t = elim (cases-order x z) [
+  | inl e ↦ e
+  | inr o ↦ elim o [ inl l ↦ absurd (t .lowest x l (s .least z (t .here))) | inr l ↦ absurd (s .lowest z l (t .least x (s .here))) ]
+]

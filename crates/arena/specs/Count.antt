@@ -1,0 +1,48 @@
+-- A position's count, and the order of counts.
+-- At-most, Below, plus: counts compared and added to. Counts: a position's count. Most, Least: the best and the worst
+-- of several, the lowest on ties.
+use Prim.Native.Nat.{ℕ, zero, suc, _+_, _≤_, _<_}
+use Rattle.arena.specs.declared.count.Count.{Count}
+use Rattle.arena.specs.declared.count.Count.the-variants.{Lost, Limited, Unlimited}
+use Rattle.arena.specs.Arena.{Arena, Place}
+use Rattle.arena.specs.Held.{Held}
+
+-- c is at most d: lost is below every number, and unlimited above
+unfoldable pub At-most : Count → Count → Type 0
+At-most Lost d = Unit {0}
+At-most (Limited k) Lost = ⊥
+At-most (Limited k) (Limited j) = k ≤ j
+At-most (Limited k) Unlimited = Unit {0}
+At-most Unlimited Lost = ⊥
+At-most Unlimited (Limited j) = ⊥
+At-most Unlimited Unlimited = Unit {0}
+
+-- c is less than d
+abbrev pub Below : Count → Count → Type 0
+Below c d = At-most d c → ⊥
+
+-- c and k rounds more, where lost is -1; unlimited stays so
+unfoldable pub plus : Count → ℕ → Count
+plus Lost zero = Lost
+plus Lost (suc k) = Limited k
+plus (Limited n) k = Limited (n + k)
+plus Unlimited k = Unlimited
+
+-- p counts c: the greatest number of rounds that it is held for, or unlimited where there is none; what is no position
+-- is lost
+unfoldable pub Counts : Arena → ℕ → Count → Type 0
+Counts a p Lost = Place a p → ⊥
+Counts a p (Limited k) = Held a k p × (Held a (suc k) p → ⊥)
+Counts a p Unlimited = (k : ℕ) → Held a k p
+
+-- of the numbers below m, y has the greatest count, and is the lowest that has
+pub record Most (m : ℕ) (f : ℕ → Count) (y : ℕ) : Type 0 where
+  pub here : y < m
+  pub most : (z : ℕ) → z < m → At-most (f z) (f y)
+  pub lowest : (z : ℕ) → z < y → Below (f z) (f y)
+
+-- of the numbers below m, x has the least count, and is the lowest that has
+pub record Least (m : ℕ) (f : ℕ → Count) (x : ℕ) : Type 0 where
+  pub here : x < m
+  pub least : (z : ℕ) → z < m → At-most (f x) (f z)
+  pub lowest : (z : ℕ) → z < x → Below (f x) (f z)

@@ -1,0 +1,9 @@
+pub mod Refusals
+pub mod Arena
+pub mod Pair
+pub mod Diagram
+pub mod Held
+pub mod Count
+pub mod Values
+pub mod Control
+pub mod Book

@@ -1,0 +1,4 @@
+// What games mean, how long they can be held, and the vocabulary that every other crate shares.
+pub mod count;
+pub mod refusal;
+pub mod shape;

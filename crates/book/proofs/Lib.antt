@@ -1,0 +1,3 @@
+mod RankLaws
+mod PickLaws
+mod WriteLaws

@@ -1,0 +1,35 @@
+use Prim.Native.Nat.{_≤_}
+use mathlib.Core.Path.{_≡_, refl, sym, subst}
+use native.Mathlib.Omega.{arith}
+use Rattle.arena.specs.Control.{Proper}
+use Rattle.arena.proofs.SettleLaws.{in-time}
+use Rattle.arena.proofs.ControlLaws.{counts-right, held-right}
+use Rattle.arena.proofs.CountLaws.{counts-once}
+use Rattle.arena.proofs.ValueLaws.{values}
+use Rattle.arena.proofs.BookLaws.{one-book}
+use Rattle.book.proofs.solve.solve.Needs as need
+
+pub returns-in-rest : need.returns-in-rest
+returns-in-rest g c = record { cause = (omega arith, λ t. c .in-rest .ensures tt (t .0) (t .1) (t .2)); same = refl }
+
+pub returns-then-book-len : need.returns-then-book-len
+returns-then-book-len g c = record { cause = (omega arith, in-time _ (g .G·Game .sound (c .args .g .now)), omega arith); same = refl }
+
+pub returns : need.returns
+returns g c =
+    let a = g .G·Game .meaning (c .args .g .now) in
+    let sound = g .G·Game .sound (c .args .g .now) in
+    let b = c .write-book .ensures in
+    let v = values a in
+    record {
+      long = omega arith;
+      values = v;
+      book = b .0 v;
+      only = λ bytes h. one-book a bytes _ h (v, b .0 v);
+      proper = λ p n. (
+        (λ e. subst (Proper a p) e (counts-right a sound p (v .count p) .0 (v .counts p))),
+        λ h. counts-once a p _ _ (v .counts p) (counts-right a sound p n .1 h),
+      );
+      held = held-right a sound;
+      rest = b .1;
+    }

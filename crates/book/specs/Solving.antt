@@ -1,0 +1,39 @@
+-- What solving gives and why it is refused: the promise of `solve`.
+use Prim.Native.Nat.{ℕ, _≤_, _<_}
+use mathlib.Core.Path.{_≡_}
+use mathlib.Core.List.{List}
+use mathlib.Core.Logic.{_↔_}
+use lib.ListN.{length, take, drop}
+use Rattle.arena.specs.declared.count.Count.{Count}
+use Rattle.arena.specs.declared.refusal.Refusal.{Refusal}
+use Rattle.arena.specs.declared.refusal.Refusal.the-variants.{StoreTooShort, DiagramField, DiagramChain, DiagramRepeat, SizeZero, TooManySweeps}
+use Rattle.arena.specs.Arena.{Arena}
+use Rattle.arena.specs.Held.{Held, In-time}
+use Rattle.arena.specs.Control.{Can-hold, Proper}
+use Rattle.arena.specs.Values.{Values}
+use Rattle.arena.specs.Book.{Book, Is-book, book-length}
+
+-- the first bytes are the game's book, and no other bytes are; each count in it is exactly what controllers can hold,
+-- as is each number of rounds that a position is held for; and the rest of the store is as it was
+pub record Solved (a : Arena) (before after : List ℕ) (len : ℕ) : Type 0 where
+  pub long : len ≡ book-length (a .size)
+  pub values : Values a
+  pub book : Book a values (take len after)
+  pub only : (bytes : List ℕ) → Is-book a bytes → bytes ≡ take len after
+  pub proper : (p : ℕ) (c : Count) → (values .count p ≡ c) ↔ Proper a p c
+  pub held : (p k : ℕ) → Held a k p ↔ Can-hold a p k
+  pub rest : drop len after ≡ drop len before
+
+-- the causes, in their order: the size is 0; 256 sweeps do not suffice; the store has too little room
+abbrev pub Cause : Arena → ℕ → Refusal → Type 0
+Cause a room SizeZero = a .size ≡ 0
+Cause a room TooManySweeps = (1 ≤ a .size) × (In-time a → ⊥)
+Cause a room StoreTooShort = (1 ≤ a .size) × In-time a × (room < book-length (a .size))
+Cause a room (DiagramField k) = ⊥
+Cause a room (DiagramChain k) = ⊥
+Cause a room (DiagramRepeat k) = ⊥
+
+-- a refusal has its cause, and writes nothing
+pub record Declined (a : Arena) (before after : List ℕ) (e : Refusal) : Type 0 where
+  pub cause : Cause a (length before) e
+  pub same : after ≡ before
