@@ -1,12 +1,13 @@
--- The order of counts, and the best and the worst of several.
+-- The order of counts.
 use Prim.Native.Nat.{ℕ, zero, suc, _+_, _≤_, _<_}
 use mathlib.Core.Path.{_≡_, refl, ap}
 use mathlib.Core.Logic.{_⊎_, inl, inr}
 use native.Mathlib.Omega.{arith}
-use Rattle.std.proofs.shelf.Tests.{cases-eq, cases-lt, cases-order}
+use Rattle.std.proofs.shelf.Tests.{cases-lt}
 use Rattle.arena.specs.declared.count.Count.{Count}
 use Rattle.arena.specs.declared.count.Count.the-variants.{Lost, Limited, Unlimited}
-use Rattle.arena.specs.Count.{At-most, Below, plus, Most, Least}
+use Rattle.arena.specs.Count.{At-most, Below, plus}
+use Rattle.arena.proofs.BestLaws.{Order}
 
 -- ---- the order
 
@@ -42,7 +43,7 @@ at-most-antisym Unlimited Lost h l = absurd h
 at-most-antisym Unlimited (Limited j) h l = absurd h
 at-most-antisym Unlimited Unlimited h l = refl
 
-pub cases-count : (c d : Count) → (At-most c d) ⊎ (Below d c)
+cases-count : (c d : Count) → (At-most c d) ⊎ (Below d c)
 unfolding At-most
 cases-count Lost d = inl tt
 cases-count (Limited k) Lost = inr (λ h. h)
@@ -52,7 +53,7 @@ cases-count Unlimited Lost = inr (λ h. h)
 cases-count Unlimited (Limited j) = inr (λ h. h)
 cases-count Unlimited Unlimited = inl tt
 
-pub below-at-most : (c d : Count) → Below c d → At-most c d
+below-at-most : (c d : Count) → Below c d → At-most c d
 unfolding At-most
 below-at-most Lost d h = tt
 below-at-most (Limited k) Lost h = h tt
@@ -93,57 +94,7 @@ plus-at-most Unlimited Lost k h = absurd h
 plus-at-most Unlimited (Limited j) k h = absurd h
 plus-at-most Unlimited Unlimited k h = tt
 
--- ---- the best and the worst
+-- ---- the laws of an order
 
--- the lowest of the greatest counts below n + 1
-pub some-most : (f : ℕ → Count) (n : ℕ) → (y : ℕ) × Most (suc n) f y
-some-most f zero = (0, record { here = omega arith; most = λ z l. (let e : z ≡ 0 = omega arith in rw e (at-most-refl (f 0))); lowest = λ z l. absurd (omega arith) })
-some-most f (suc n) =
-    let g = some-most f n in
-    elim (cases-count (f (suc n)) (f (g .0))) [
-      | inl h ↦ (g .0, record {
-        here = omega (arith, g .1 .here);
-        most = λ z l. elim (cases-eq z (suc n)) [ inl e ↦ rw e h | inr ne ↦ g .1 .most z (omega arith) ];
-        lowest = g .1 .lowest;
-      })
-      | inr h ↦ (suc n, record {
-        here = omega arith;
-        most = λ z l. elim (cases-eq z (suc n)) [
-          | inl e ↦ rw e (at-most-refl (f (suc n)))
-          | inr ne ↦ at-most-trans (f z) (f (g .0)) (f (suc n)) (g .1 .most z (omega arith)) (below-at-most _ _ h)
-        ];
-        lowest = λ z l k. h (at-most-trans (f (suc n)) (f z) (f (g .0)) k (g .1 .most z l));
-      })
-    ]
-
-pub some-least : (f : ℕ → Count) (n : ℕ) → (x : ℕ) × Least (suc n) f x
-some-least f zero = (0, record { here = omega arith; least = λ z l. (let e : z ≡ 0 = omega arith in rw e (at-most-refl (f 0))); lowest = λ z l. absurd (omega arith) })
-some-least f (suc n) =
-    let g = some-least f n in
-    elim (cases-count (f (g .0)) (f (suc n))) [
-      | inl h ↦ (g .0, record {
-        here = omega (arith, g .1 .here);
-        least = λ z l. elim (cases-eq z (suc n)) [ inl e ↦ rw e h | inr ne ↦ g .1 .least z (omega arith) ];
-        lowest = g .1 .lowest;
-      })
-      | inr h ↦ (suc n, record {
-        here = omega arith;
-        least = λ z l. elim (cases-eq z (suc n)) [
-          | inl e ↦ rw e (at-most-refl (f (suc n)))
-          | inr ne ↦ at-most-trans (f (suc n)) (f (g .0)) (f z) (below-at-most _ _ h) (g .1 .least z (omega arith))
-        ];
-        lowest = λ z l k. h (at-most-trans (f (g .0)) (f z) (f (suc n)) (g .1 .least z l) k);
-      })
-    ]
-
-pub most-once : (m : ℕ) (f : ℕ → Count) (y z : ℕ) → Most m f y → Most m f z → y ≡ z
-most-once m f y z s t = elim (cases-order y z) [
-  | inl e ↦ e
-  | inr o ↦ elim o [ inl l ↦ absurd (t .lowest y l (s .most z (t .here))) | inr l ↦ absurd (s .lowest z l (t .most y (s .here))) ]
-]
-
-pub least-once : (m : ℕ) (f : ℕ → Count) (x z : ℕ) → Least m f x → Least m f z → x ≡ z
-least-once m f x z s t = elim (cases-order x z) [
-  | inl e ↦ e
-  | inr o ↦ elim o [ inl l ↦ absurd (t .lowest x l (s .least z (t .here))) | inr l ↦ absurd (s .lowest z l (t .least x (s .here))) ]
-]
+pub count-order : Order At-most
+count-order = record { same = at-most-refl; trans = at-most-trans; decided = cases-count; total = λ c d. below-at-most d c }

@@ -14,7 +14,8 @@ use Rattle.arena.specs.Held.{Held}
 use Rattle.arena.specs.Count.{At-most, plus, Counts, Most, Least}
 use Rattle.arena.specs.Values.{Spoils, Values}
 use Rattle.arena.proofs.HeldLaws.{held-place}
-use Rattle.arena.proofs.OrderLaws.{at-most-trans, some-most, some-least, most-once, least-once, plus-at-most}
+use Rattle.arena.proofs.BestLaws.{reversed, some-best, best-once, best-same}
+use Rattle.arena.proofs.OrderLaws.{count-order, plus-at-most}
 use Rattle.arena.proofs.CountLaws.{held-counts, counts-held, always-counts, at-most-held, unheld-counts, counts-once, counted}
 
 -- ---- they exist
@@ -23,12 +24,12 @@ use Rattle.arena.proofs.CountLaws.{held-counts, counts-held, always-counts, at
 most-of : (i : ℕ) (f : ℕ → Count) → (y : ℕ) × Most (2 ^ i) f y
 most-of i f =
     let e : suc (2 ^ i - 1) ≡ 2 ^ i = omega (arith, pow-pos i) in
-    subst (λ m. (y : ℕ) × Most m f y) e (some-most f (2 ^ i - 1))
+    subst (λ m. (y : ℕ) × Most m f y) e (some-best count-order f (2 ^ i - 1))
 
 least-of : (i : ℕ) (f : ℕ → Count) → (x : ℕ) × Least (2 ^ i) f x
 least-of i f =
     let e : suc (2 ^ i - 1) ≡ 2 ^ i = omega (arith, pow-pos i) in
-    subst (λ m. (x : ℕ) × Least m f x) e (some-least f (2 ^ i - 1))
+    subst (λ m. (x : ℕ) × Least m f x) e (some-best (reversed count-order) f (2 ^ i - 1))
 
 some-spoils : (c : Count) (i : ℕ) (f : ℕ → Count) → (s : Option ℕ) × Spoils c (2 ^ i) f s
 some-spoils Lost i f = (None, refl)
@@ -56,19 +57,11 @@ module _ {a : Arena} (v w : Values a) where
 
   pub one-answer : (p x : ℕ) → Place a p → x < 2 ^ a .inputs → v .answer p x ≡ w .answer p x
   one-answer p x h l =
-      most-once (2 ^ a .outputs) (λ y. w .count (a .move p x y)) _ _ (subst (λ n. Most (2 ^ a .outputs) (λ y. n (a .move p x y)) (v .answer p x)) one-count (v .answers p x h l)) (w .answers p x h l)
-
--- the worst of several is that of others that count the same
-pub least-same : (m : ℕ) (f g : ℕ → Count) (x : ℕ) → ((z : ℕ) → z < m → f z ≡ g z) → Least m f x → Least m g x
-least-same m f g x e h = record {
-  here = h .here;
-  least = λ z l. rw (← e x (h .here), ← e z l) (h .least z l);
-  lowest = λ z l. let k : z < m = omega (arith, h .here) in rw (← e x (h .here), ← e z k) (h .lowest z l);
-}
+      best-once (subst (λ n. Most (2 ^ a .outputs) (λ y. n (a .move p x y)) (v .answer p x)) one-count (v .answers p x h l)) (w .answers p x h l)
 
 spoils-once : (c : Count) (m : ℕ) (f g : ℕ → Count) (s t : Option ℕ) → ((z : ℕ) → z < m → f z ≡ g z) → Spoils c m f s → Spoils c m g t → s ≡ t
 spoils-once Lost m f g s t e h k = h ∙ sym k
-spoils-once (Limited n) m f g s t e h k = h .1 ∙ ap Some (least-once m g _ _ (least-same m f g _ e (h .2)) (k .2)) ∙ sym (k .1)
+spoils-once (Limited n) m f g s t e h k = h .1 ∙ ap Some (best-once (best-same e (h .2)) (k .2)) ∙ sym (k .1)
 spoils-once Unlimited m f g s t e h k = h ∙ sym k
 
 module _ {a : Arena} (v w : Values a) where
@@ -93,7 +86,7 @@ module _ {a : Arena} (v : Values a) where
   -- where some output keeps to what is held for k, the answer does
   pub answer-keeps : (p x k z : ℕ) → Place a p → x < 2 ^ a .inputs → z < 2 ^ a .outputs → Held a k (a .move p x z) → Held a k (a .move p x (v .answer p x))
   answer-keeps p x k z h l m =
-      at-most-held a (a .move p x z) _ _ _ (v .counts _) (v .counts _) (v .answers p x h l .most z m) k
+      at-most-held a (a .move p x z) _ _ _ (v .counts _) (v .counts _) (v .answers p x h l .best z m) k
 
   answer-held : (p x k : ℕ) → x < 2 ^ a .inputs → Held a (suc k) p → Held a k (a .move p x (v .answer p x))
   unfolding Held
@@ -124,7 +117,7 @@ module _ {a : Arena} (v : Values a) where
         λ z i. (
           v .answer p z,
           v .answers p z here i .here,
-          at-most-held a _ _ _ _ (v .counts _) (v .counts _) (s .least z i) k (answer-keeps p x k y here (s .here) l h),
+          at-most-held a _ _ _ _ (v .counts _) (v .counts _) (s .best z i) k (answer-keeps p x k y here (s .here) l h),
         ),
       )
 

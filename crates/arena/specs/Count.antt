@@ -1,11 +1,12 @@
 -- A position's count, and the order of counts.
 -- At-most, Below, plus: counts compared and added to. Counts: a position's count. Most, Least: the best and the worst
 -- of several, the lowest on ties.
-use Prim.Native.Nat.{ℕ, zero, suc, _+_, _≤_, _<_}
+use Prim.Native.Nat.{ℕ, zero, suc, _+_, _≤_}
 use Rattle.arena.specs.declared.count.Count.{Count}
 use Rattle.arena.specs.declared.count.Count.the-variants.{Lost, Limited, Unlimited}
 use Rattle.arena.specs.Arena.{Arena, Place}
 use Rattle.arena.specs.Held.{Held}
+use Rattle.arena.specs.Best.{Best}
 
 -- c is at most d: lost is below every number, and unlimited above
 unfoldable pub At-most : Count → Count → Type 0
@@ -36,13 +37,9 @@ Counts a p (Limited k) = Held a k p × (Held a (suc k) p → ⊥)
 Counts a p Unlimited = (k : ℕ) → Held a k p
 
 -- of the numbers below m, y has the greatest count, and is the lowest that has
-pub record Most (m : ℕ) (f : ℕ → Count) (y : ℕ) : Type 0 where
-  pub here : y < m
-  pub most : (z : ℕ) → z < m → At-most (f z) (f y)
-  pub lowest : (z : ℕ) → z < y → Below (f z) (f y)
+abbrev pub Most : ℕ → (ℕ → Count) → ℕ → Type 0
+Most m f y = Best At-most m f y
 
 -- of the numbers below m, x has the least count, and is the lowest that has
-pub record Least (m : ℕ) (f : ℕ → Count) (x : ℕ) : Type 0 where
-  pub here : x < m
-  pub least : (z : ℕ) → z < m → At-most (f x) (f z)
-  pub lowest : (z : ℕ) → z < x → Below (f x) (f z)
+abbrev pub Least : ℕ → (ℕ → Count) → ℕ → Type 0
+Least m f x = Best (λ c d. At-most d c) m f x

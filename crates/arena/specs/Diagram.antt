@@ -10,7 +10,7 @@ use lib.Dec.{leb, eqb}
 use lib.ListN.{length, getD}
 use Rattle.arena.specs.declared.shape.Shape.{Shape}
 use Rattle.arena.specs.declared.refusal.Refusal.{Refusal}
-use Rattle.arena.specs.declared.refusal.Refusal.the-variants.{StoreTooShort, DiagramField, DiagramChain, DiagramRepeat, SizeZero, TooManySweeps}
+use Rattle.arena.specs.declared.refusal.Refusal.the-variants.{DiagramField, DiagramChain, DiagramRepeat}
 use Rattle.arena.specs.Arena.{Arena, Place, beyond}
 
 -- ---- where the bytes stand
@@ -186,13 +186,11 @@ pub record Repeated (bs : List ℕ) (k : ℕ) : Type 0 where
   pub at : k ≡ record-at (shape-of bs) again
 
 -- why an image is refused
-abbrev pub Refused : List ℕ → Refusal → Type 0
-Refused bs (DiagramField k) = Field-wrong bs k
-Refused bs (DiagramChain k) = Index-wrong bs k ⊎ Unreached bs k
-Refused bs (DiagramRepeat k) = Repeated bs k
-Refused bs StoreTooShort = ⊥
-Refused bs SizeZero = ⊥
-Refused bs TooManySweeps = ⊥
+pub data Refused (bs : List ℕ) (e : Refusal) : Type 0 where
+  field : (k : ℕ) → e ≡ DiagramField k → Field-wrong bs k → Refused bs e
+  index : (k : ℕ) → e ≡ DiagramChain k → Index-wrong bs k → Refused bs e
+  unreached : (k : ℕ) → e ≡ DiagramChain k → Unreached bs k → Refused bs e
+  repeated : (k : ℕ) → e ≡ DiagramRepeat k → Repeated bs k → Refused bs e
 
 -- ---- the drawn game
 

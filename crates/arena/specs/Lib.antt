@@ -3,6 +3,7 @@ pub mod Arena
 pub mod Pair
 pub mod Diagram
 pub mod Held
+pub mod Best
 pub mod Count
 pub mod Values
 pub mod Control

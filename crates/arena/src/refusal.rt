@@ -10,6 +10,9 @@ pub enum Refusal {
     DiagramChain(usize),
     DiagramRepeat(usize),
     SizeZero,
+    NotThisBook,
+    OutOfRange,
+    RunLost,
     TooManySweeps,
 }
 
@@ -19,6 +22,7 @@ pub enum Layer {
     Store,
     Diagram,
     Game,
+    Run,
     Solve,
 }
 
@@ -33,6 +37,9 @@ impl Refusal {
             Refusal::DiagramChain(_) => 15,
             Refusal::DiagramRepeat(_) => 16,
             Refusal::SizeZero => 17,
+            Refusal::NotThisBook => 18,
+            Refusal::OutOfRange => 19,
+            Refusal::RunLost => 20,
             Refusal::TooManySweeps => 21,
         }
     }
@@ -46,6 +53,9 @@ impl Refusal {
             Refusal::DiagramChain(_) => Layer::Diagram,
             Refusal::DiagramRepeat(_) => Layer::Diagram,
             Refusal::SizeZero => Layer::Game,
+            Refusal::NotThisBook => Layer::Run,
+            Refusal::OutOfRange => Layer::Run,
+            Refusal::RunLost => Layer::Run,
             Refusal::TooManySweeps => Layer::Solve,
         }
     }
@@ -60,6 +70,9 @@ impl Refusal {
             Refusal::DiagramRepeat(at) => *at,
             Refusal::StoreTooShort => 0,
             Refusal::SizeZero => 0,
+            Refusal::NotThisBook => 0,
+            Refusal::OutOfRange => 0,
+            Refusal::RunLost => 0,
             Refusal::TooManySweeps => 0,
         }
     }

@@ -1,3 +1,5 @@
 mod RankLaws
 mod PickLaws
 mod WriteLaws
+mod AgreeLaws
+mod ToldLaws

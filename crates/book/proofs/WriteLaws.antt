@@ -20,11 +20,10 @@ use Rattle.arena.specs.Count.{Counts, Most, Least}
 use Rattle.arena.specs.Values.{Spoils, Values}
 use Rattle.arena.specs.Book.{front, input-byte, Answer-bytes, Entry, header, entry-at, book-length, Book}
 use Rattle.arena.proofs.CountLaws.{counts-once}
-use Rattle.arena.proofs.OrderLaws.{most-once, least-once}
-use Rattle.arena.proofs.ValueLaws.{least-same}
+use Rattle.arena.proofs.BestLaws.{best-once, best-same}
 use Rattle.book.specs.Ranks.{count-of, counts-of, Ready, rank-by, Highest, Lowest, worth, Filled, Written}
 use Rattle.book.proofs.RankLaws.{count-top, count-under}
-use Rattle.book.proofs.PickLaws.{highest-greatest, most-from, most-to, least-from, lowest-same}
+use Rattle.book.proofs.PickLaws.{highest-greatest, most-from, most-to, least-from}
 
 -- ---- the values, by ranks
 
@@ -45,7 +44,7 @@ module _ {a : Arena} {top : ℕ} {rs : List ℕ} (r : Ready a top rs) (v : Value
   most-is p x h l = subst (λ n. Most (2 ^ a .outputs) (λ y. n (a .move p x y)) (v .answer p x)) (fun-ext count-is) (v .answers p x h l)
 
   answer-is : (p x y : ℕ) → Place a p → x < 2 ^ a .inputs → Highest (rank-by a rs p x) (2 ^ a .outputs) y → y ≡ v .answer p x
-  answer-is p x y h l s = most-once _ _ _ _ (most-from r (a .move p x) (2 ^ a .outputs) y s) (most-is p x h l)
+  answer-is p x y h l s = best-once (most-from r (a .move p x) (2 ^ a .outputs) y s) (most-is p x h l)
 
   answer-worth : (p x : ℕ) → Place a p → x < 2 ^ a .inputs → worth a rs p x ≡ getD rs (a .move p x (v .answer p x)) 0
   answer-worth p x h l = sym (highest-greatest (rank-by a rs p x) (2 ^ a .outputs) _ (most-to r (a .move p x) (2 ^ a .outputs) _ (most-is p x h l)))
@@ -53,8 +52,7 @@ module _ {a : Arena} {top : ℕ} {rs : List ℕ} (r : Ready a top rs) (v : Value
   -- the input of the lowest worth is the worst
   least-is : (p x : ℕ) → Place a p → Lowest (worth a rs p) (2 ^ a .inputs) x → Least (2 ^ a .inputs) (λ z. v .count (a .move p z (v .answer p z))) x
   least-is p x h s =
-      least-same (2 ^ a .inputs) _ _ x (λ z l. sym (count-is _))
-      (least-from r (λ z. a .move p z (v .answer p z)) (2 ^ a .inputs) x (lowest-same (worth a rs p) _ (2 ^ a .inputs) x (λ z l. answer-worth p z h l) s))
+      best-same (λ z l. sym (count-is _)) (least-from r (λ z. a .move p z (v .answer p z)) (2 ^ a .inputs) x (best-same (λ z l. answer-worth p z h l) s))
 
   pub spoiling-none : (p : ℕ) → v .count p ≡ Unlimited → 0 ≡ input-byte (v .spoiling p)
   spoiling-none p e = ap input-byte (sym (subst (λ c. Spoils c (2 ^ a .inputs) (λ z. v .count (a .move p z (v .answer p z))) (v .spoiling p)) e (v .spoils p)))
@@ -62,7 +60,7 @@ module _ {a : Arena} {top : ℕ} {rs : List ℕ} (r : Ready a top rs) (v : Value
   pub spoiling-is : (p k x : ℕ) → Place a p → v .count p ≡ Limited k → Lowest (worth a rs p) (2 ^ a .inputs) x → x ≡ input-byte (v .spoiling p)
   spoiling-is p k x h e s =
       let t = subst (λ c. Spoils c (2 ^ a .inputs) (λ z. v .count (a .move p z (v .answer p z))) (v .spoiling p)) e (v .spoils p) in
-      least-once _ _ _ _ (least-is p x h s) (t .2) ∙ ap input-byte (sym (t .1))
+      best-once (least-is p x h s) (t .2) ∙ ap input-byte (sym (t .1))
 
   answer-bytes-from : Sound a → (p : ℕ) (bytes : List ℕ) → Place a p → length bytes ≡ 16 → ((z : ℕ) → z < 16 → Filled a rs p z (getD bytes z 0)) → Answer-bytes a v p bytes
   answer-bytes-from s p bytes h l f =

@@ -1,2 +1,5 @@
 pub mod Ranks
 pub mod Solving
+pub mod Told
+pub mod Agreeing
+pub mod Accepting

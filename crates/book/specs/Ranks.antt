@@ -11,6 +11,7 @@ use Rattle.arena.specs.declared.count.Count.{Count}
 use Rattle.arena.specs.declared.count.Count.the-variants.{Lost, Limited, Unlimited}
 use Rattle.arena.specs.Arena.{Arena}
 use Rattle.arena.specs.Held.{Held}
+use Rattle.arena.specs.Best.{Best}
 use Rattle.arena.specs.Count.{Counts}
 use Rattle.arena.specs.Values.{Values}
 use Rattle.arena.specs.Book.{entry-at, book-length, Entry}
@@ -53,17 +54,12 @@ pub record Ready (a : Arena) (top : ℕ) (rs : List ℕ) : Type 0 where
 abbrev pub rank-by : Arena → List ℕ → ℕ → ℕ → ℕ → ℕ
 rank-by a rs p x y = getD rs (a .move p x y) 0
 
--- of the numbers below m, y has the greatest f, and is the lowest such
-pub record Highest (f : ℕ → ℕ) (m y : ℕ) : Type 0 where
-  pub here : y < m
-  pub most : (z : ℕ) → z < m → f z ≤ f y
-  pub lowest : (z : ℕ) → z < y → f z < f y
+-- of the numbers below m, y has the greatest f, and x the least; each is the lowest that has
+abbrev pub Highest : (ℕ → ℕ) → ℕ → ℕ → Type 0
+Highest f m y = Best _≤_ m f y
 
--- the least, and is the lowest such
-pub record Lowest (f : ℕ → ℕ) (m x : ℕ) : Type 0 where
-  pub here : x < m
-  pub least : (z : ℕ) → z < m → f x ≤ f z
-  pub lowest : (z : ℕ) → z < x → f x < f z
+abbrev pub Lowest : (ℕ → ℕ) → ℕ → ℕ → Type 0
+Lowest f m x = Best (λ r s. s ≤ r) m f x
 
 -- the greatest f below m
 abbrev pub greatest : (ℕ → ℕ) → ℕ → ℕ

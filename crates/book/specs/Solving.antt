@@ -6,7 +6,7 @@ use mathlib.Core.Logic.{_↔_}
 use lib.ListN.{length, take, drop}
 use Rattle.arena.specs.declared.count.Count.{Count}
 use Rattle.arena.specs.declared.refusal.Refusal.{Refusal}
-use Rattle.arena.specs.declared.refusal.Refusal.the-variants.{StoreTooShort, DiagramField, DiagramChain, DiagramRepeat, SizeZero, TooManySweeps}
+use Rattle.arena.specs.declared.refusal.Refusal.the-variants.{StoreTooShort, SizeZero, TooManySweeps}
 use Rattle.arena.specs.Arena.{Arena}
 use Rattle.arena.specs.Held.{Held, In-time}
 use Rattle.arena.specs.Control.{Can-hold, Proper}
@@ -24,14 +24,11 @@ pub record Solved (a : Arena) (before after : List ℕ) (len : ℕ) : Type 0 whe
   pub held : (p k : ℕ) → Held a k p ↔ Can-hold a p k
   pub rest : drop len after ≡ drop len before
 
--- the causes, in their order: the size is 0; 256 sweeps do not suffice; the store has too little room
-abbrev pub Cause : Arena → ℕ → Refusal → Type 0
-Cause a room SizeZero = a .size ≡ 0
-Cause a room TooManySweeps = (1 ≤ a .size) × (In-time a → ⊥)
-Cause a room StoreTooShort = (1 ≤ a .size) × In-time a × (room < book-length (a .size))
-Cause a room (DiagramField k) = ⊥
-Cause a room (DiagramChain k) = ⊥
-Cause a room (DiagramRepeat k) = ⊥
+-- why solving is refused, in the order of judging: the size is 0; 256 sweeps do not suffice; the store is too short
+pub data Cause (a : Arena) (room : ℕ) (e : Refusal) : Type 0 where
+  none : e ≡ SizeZero → a .size ≡ 0 → Cause a room e
+  sweeps : e ≡ TooManySweeps → 1 ≤ a .size → (In-time a → ⊥) → Cause a room e
+  short : e ≡ StoreTooShort → 1 ≤ a .size → In-time a → room < book-length (a .size) → Cause a room e
 
 -- a refusal has its cause, and writes nothing
 pub record Declined (a : Arena) (before after : List ℕ) (e : Refusal) : Type 0 where

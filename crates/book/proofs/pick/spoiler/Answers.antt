@@ -3,19 +3,19 @@ use mathlib.Core.Path.{_≡_, subst}
 use native.Mathlib.Omega.{arith}
 use lib.Pow.{pow-pos}
 use Rattle.book.specs.Ranks.{worth, Lowest}
-use Rattle.book.proofs.PickLaws.{lowest-one, lowest-turn, lowest-turn-past}
+use Rattle.arena.proofs.BestLaws.{reversed, number-order, best-one, turn-takes, turn-keeps}
 use Rattle.book.proofs.pick.spoiler.Needs.{then-r-low, else-r-low}
 use Rattle.book.proofs.pick.spoiler.Needs as need
 
 pub loop-x-holds : need.loop-x-holds
-loop-x-holds g c = (lowest-one _, c .worth-of-low .ensures)
+loop-x-holds g c = (best-one (reversed number-order) _, c .worth-of-low .ensures)
 
 pub loop-x-again : need.loop-x-again
 loop-x-again g c =
     let f = worth (g .G·Game .meaning (c .args .g .now)) (c .args .ranks .now) (c .args .p) in
     elim (c .if-r-low .came) [
-      | then-r-low w ↦ lowest-turn f (w .worst-is) (w .low-is) (c .worth-of-r .ensures) (c .loop-x .inv .1) (w .if-r-low .taken) (c .loop-x .inv .0)
-      | else-r-low w ↦ lowest-turn-past f (w .worst-is) (w .low-is) (c .worth-of-r .ensures) (c .loop-x .inv .1) (w .if-r-low .left) (c .loop-x .inv .0)
+      | then-r-low w ↦ turn-takes (reversed number-order) f (w .worst-is) (w .low-is) (c .worth-of-r .ensures) (c .loop-x .inv .1) (λ k. omega (arith, w .if-r-low .taken)) (c .loop-x .inv .0)
+      | else-r-low w ↦ turn-keeps (reversed number-order) f (w .worst-is) (w .low-is) (c .worth-of-r .ensures) (c .loop-x .inv .1) (w .if-r-low .left) (c .loop-x .inv .0)
     ]
 
 pub returns : need.returns

@@ -7,13 +7,17 @@ use Rattle.arena.proofs.ControlLaws.{counts-right, held-right}
 use Rattle.arena.proofs.CountLaws.{counts-once}
 use Rattle.arena.proofs.ValueLaws.{values}
 use Rattle.arena.proofs.BookLaws.{one-book}
+use Rattle.book.specs.Solving.{none, sweeps, short}
 use Rattle.book.proofs.solve.solve.Needs as need
 
+pub returns-then-n-eq0 : need.returns-then-n-eq0
+returns-then-n-eq0 g c = record { cause = none refl (omega arith); same = refl }
+
 pub returns-in-rest : need.returns-in-rest
-returns-in-rest g c = record { cause = (omega arith, λ t. c .in-rest .ensures tt (t .0) (t .1) (t .2)); same = refl }
+returns-in-rest g c = record { cause = sweeps refl (omega arith) (λ t. c .in-rest .ensures tt (t .0) (t .1) (t .2)); same = refl }
 
 pub returns-then-book-len : need.returns-then-book-len
-returns-then-book-len g c = record { cause = (omega arith, in-time _ (g .G·Game .sound (c .args .g .now)), omega arith); same = refl }
+returns-then-book-len g c = record { cause = short refl (omega arith) (in-time _ (g .G·Game .sound (c .args .g .now))) (omega arith); same = refl }
 
 pub returns : need.returns
 returns g c =
