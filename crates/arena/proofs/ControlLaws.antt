@@ -1,6 +1,6 @@
 -- The two readings agree: what is held is what controllers can hold.
 use Prim.Native.Nat.{ℕ, zero, suc, _+_, _^_, _≤_, _<_}
-use mathlib.Core.Path.{_≡_, refl, ap}
+use mathlib.Core.Path.{_≡_, refl, ap, subst}
 use mathlib.Core.List.{List, [], _∷_}
 use mathlib.Core.Logic.{_↔_, inl, inr}
 use native.Mathlib.Omega.{arith}
@@ -17,6 +17,7 @@ use Rattle.arena.specs.Control.{Controller, Inputs, led, plays, Holds, Can-hol
 use Rattle.arena.specs.Count.{Counts}
 use Rattle.arena.specs.Values.{Values}
 use Rattle.arena.proofs.HeldLaws.{held-place}
+use Rattle.arena.proofs.CountLaws.{counts-once}
 use Rattle.arena.proofs.ValueLaws.{values, answer-keeps}
 
 -- the first round, then the rest by what is left of the controller
@@ -112,3 +113,10 @@ pub counts-right : (a : Arena) → Sound a → (p : ℕ) (c : Count) → Counts 
 counts-right a s p Lost = unfold Counts in ((λ h. h), λ h. h)
 counts-right a s p (Limited k) = limited-right a s p k
 counts-right a s p Unlimited = unlimited-right a s p
+
+-- so a position's value is a count exactly where that count is what controllers can hold
+pub values-proper : {a : Arena} → Sound a → (v : Values a) (p : ℕ) (c : Count) → (v .count p ≡ c) ↔ Proper a p c
+values-proper {a} s v p c = (
+  (λ e. counts-right a s p c .0 (subst (Counts a p) e (v .counts p))),
+  λ h. counts-once a p _ _ (v .counts p) (counts-right a s p c .1 h),
+)

@@ -2,8 +2,11 @@
 use Prim.Native.Nat.{ℕ, zero, suc, _+_, _≤_, _<_}
 use mathlib.Core.Path.{_≡_, refl, ap}
 use mathlib.Core.Logic.{_⊎_, inl, inr}
+use mathlib.Core.Bool.{Bool, true, false}
+use lib.Dec.{leb, eqb}
+use Rattle.std.specs.Orderings.{Decides}
 use native.Mathlib.Omega.{arith}
-use Rattle.std.proofs.shelf.Tests.{cases-lt}
+use Rattle.std.proofs.shelf.Tests.{cases-lt, false≢true, leb-true, le-leb, eqb-true, eq-eqb}
 use Rattle.arena.specs.declared.count.Count.{Count}
 use Rattle.arena.specs.declared.count.Count.the-variants.{Lost, Limited, Unlimited}
 use Rattle.arena.specs.Count.{At-most, Below, plus}
@@ -98,3 +101,51 @@ plus-at-most Unlimited Unlimited k h = tt
 
 pub count-order : Order At-most
 count-order = record { same = at-most-refl; trans = at-most-trans; decided = cases-count; total = λ c d. below-at-most d c }
+
+-- ---- decided by computing
+
+abbrev pub at-most : Count → Count → Bool
+at-most Lost d = true
+at-most (Limited k) Lost = false
+at-most (Limited k) (Limited j) = leb k j
+at-most (Limited k) Unlimited = true
+at-most Unlimited Lost = false
+at-most Unlimited (Limited j) = false
+at-most Unlimited Unlimited = true
+
+pub at-most-decides : (c d : Count) → Decides (at-most c d) (At-most c d)
+unfolding At-most
+at-most-decides Lost d = ((λ _. tt), λ _. refl)
+at-most-decides (Limited k) Lost = ((λ e. false≢true e), λ h. absurd h)
+at-most-decides (Limited k) (Limited j) = ((λ e. leb-true k j e), λ h. le-leb k j h)
+at-most-decides (Limited k) Unlimited = ((λ _. tt), λ _. refl)
+at-most-decides Unlimited Lost = ((λ e. false≢true e), λ h. absurd h)
+at-most-decides Unlimited (Limited j) = ((λ e. false≢true e), λ h. absurd h)
+at-most-decides Unlimited Unlimited = ((λ _. tt), λ _. refl)
+
+abbrev pub one-more : Count → Count → Bool
+one-more Lost d = false
+one-more (Limited k) Lost = eqb k 0
+one-more (Limited k) (Limited j) = eqb k (j + 1)
+one-more (Limited k) Unlimited = false
+one-more Unlimited Lost = false
+one-more Unlimited (Limited j) = false
+one-more Unlimited Unlimited = true
+
+never : (c d : Count) → (c ≡ plus d 1 → _≡_ {A = ℕ} 0 1) → Decides false (c ≡ plus d 1)
+never c d n = ((λ e. absurd (false≢true e)), λ h. absurd (let z = n h in omega arith))
+
+number-of : (k j : ℕ) → Decides (eqb k j) (Limited k ≡ Limited j)
+number-of k j = ((λ e. ap Limited (eqb-true k j e)), λ h. eq-eqb k j (cc))
+
+pub one-more-decides : (c d : Count) → Decides (one-more c d) (c ≡ plus d 1)
+unfolding plus
+one-more-decides Lost Lost = never Lost Lost (λ h. cc)
+one-more-decides Lost (Limited j) = never Lost (Limited j) (λ h. cc)
+one-more-decides Lost Unlimited = never Lost Unlimited (λ h. cc)
+one-more-decides (Limited k) Lost = number-of k 0
+one-more-decides (Limited k) (Limited j) = number-of k (j + 1)
+one-more-decides (Limited k) Unlimited = never (Limited k) Unlimited (λ h. cc)
+one-more-decides Unlimited Lost = never Unlimited Lost (λ h. cc)
+one-more-decides Unlimited (Limited j) = never Unlimited (Limited j) (λ h. cc)
+one-more-decides Unlimited Unlimited = ((λ _. refl), λ _. refl)

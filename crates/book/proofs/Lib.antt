@@ -3,3 +3,4 @@ mod PickLaws
 mod WriteLaws
 mod AgreeLaws
 mod ToldLaws
+mod AcceptLaws

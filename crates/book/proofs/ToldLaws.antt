@@ -64,6 +64,9 @@ module _ (a : Arena) (sound : Sound a) (bs : List ℕ) (g : Agrees a bs) where
   moved : (p : ℕ) (f : ℕ → ℕ) → _≡_ {A = ℕ → Count} (λ x. count-in bs (a .move p x (f x))) (λ x. count (a .move p x (f x)))
   moved p f = fun-ext (λ x. count-at _ (sound .sized .within p x (f x)))
 
+  few : (x : ℕ) → x < 2 ^ a .inputs → x < 16
+  few x l = let h : 2 ^ a .inputs ≤ 2 ^ 4 = pow-mono (sound .walks .few-in) in omega arith
+
   off : (p : ℕ) → (Place a p → ⊥) → count p ≡ Lost
   unfolding count
   off p o = cond-false (inside p) _ _ (not-inside p o)
@@ -77,7 +80,7 @@ module _ (a : Arena) (sound : Sound a) (bs : List ℕ) (g : Agrees a bs) where
   spoiling-is p i = cond-true (inside p) _ _ (is-inside p i)
 
   best : (p x : ℕ) → Place a p → x < 2 ^ a .inputs → Most (2 ^ a .outputs) (λ y. count (a .move p x y)) (answer-told bs p x)
-  best p x i l = subst (λ n. Most (2 ^ a .outputs) n (answer-told bs p x)) (fun-ext (λ y. count-at _ (sound .sized .within p x y))) (g .here p i .best x l)
+  best p x i l = subst (λ n. Most (2 ^ a .outputs) n (answer-told bs p x)) (fun-ext (λ y. count-at _ (sound .sized .within p x y))) (g .here p i .answers x (few x l) .best l)
 
   fol : (p : ℕ) → Place a p → Follows (count p) (2 ^ a .inputs) (λ x. count (a .move p x (answer-told bs p x))) (spoiling p)
   fol p i =
@@ -111,14 +114,13 @@ module _ (a : Arena) (sound : Sound a) (bs : List ℕ) (g : Agrees a bs) where
               ∙ ap (λ c. front c (spoiling-told bs p) ++ take 16 (drop 8 d)) (sym (count-is p i))
               ∙ ap (λ s. front (count p) s ++ take 16 (drop 8 d)) (sym (spoiling-is p i));
           answered =
-              let few : 2 ^ a .inputs ≤ 2 ^ 4 = pow-mono (sound .walks .few-in) in
               let at : (x : ℕ) → x < 16 → getD (take 16 (drop 8 d)) x 0 ≡ answer-told bs p x = λ x l. getD-take 16 (drop 8 d) x 0 l ∙ getD-drop 8 d x 0 ∙ getD-drop (entry-at p) bs (8 + x) 0 in
               let sixteen : length (take 16 (drop 8 d)) ≡ 16 = length-take-le 16 (drop 8 d) (omega (arith, length-drop 8 d)) in
               record {
                 sixteen = sixteen;
-                answer = λ x l. at x (omega arith);
+                answer = λ x l. at x (few x l);
                 no-answer = λ x l. elim (cases-lt x 16) [
-                  | inl m ↦ at x m ∙ g .here p i .blank x l m
+                  | inl m ↦ at x m ∙ g .here p i .answers x m .blank l
                   | inr m ↦ getD-past (take 16 (drop 8 d)) x 0 (omega arith)
                 ];
               };
@@ -213,8 +215,10 @@ module _ (a : Arena) (sound : Sound a) (v : Values a) (bs : List ℕ) (b : Book 
       front =
           sym (take-take 8 24 (drop (entry-at p) bs) (omega arith)) ∙ ap (take 8) (b .entries p i .layout)
           ∙ ap (λ c. front c (v .spoiling p)) (sym (told-count-is p i)) ∙ ap (front (count-told bs p)) (sym (told-spoiling-is p i));
-      blank = λ x l m. answer-byte-is p x i m ∙ b .entries p i .answered .no-answer x l;
-      best = λ x l. rw (told-answer-is p x i l) (subst (λ n. Most (2 ^ a .outputs) n (v .answer p x)) (fun-ext (λ y. count-in-is _ (sound .sized .within p x y))) (v .answers p x i l));
+      answers = λ x m. record {
+        best = λ l. rw (told-answer-is p x i l) (subst (λ n. Most (2 ^ a .outputs) n (v .answer p x)) (fun-ext (λ y. count-in-is _ (sound .sized .within p x y))) (v .answers p x i l));
+        blank = λ l. answer-byte-is p x i m ∙ b .entries p i .answered .no-answer x l;
+      };
       follows = told-follows p i;
     };
   }

@@ -19,11 +19,19 @@ Follows Lost m f s = ⊥
 Follows (Limited k) m f s = (x : ℕ) × (s ≡ Some x) × Least m f x × (Limited k ≡ plus (f x) 1)
 Follows Unlimited m f s = (s ≡ None) × ((x : ℕ) → x < m → f x ≡ Unlimited)
 
+-- y is the right answer to x: the output whose move counts most, and 0 where there is no such input
+pub record Expected (a : Arena) (bs : List ℕ) (p x y : ℕ) : Type 0 where
+  pub best : x < 2 ^ a .inputs → Most (2 ^ a .outputs) (λ z. count-in bs (a .move p x z)) y
+  pub blank : 2 ^ a .inputs ≤ x → y ≡ 0
+
+-- each of the sixteen answers in the record of p is right
+abbrev pub Answers-agree : Arena → List ℕ → ℕ → Type 0
+Answers-agree a bs p = (x : ℕ) → x < 16 → Expected a bs p x (answer-told bs p x)
+
 -- the record of p agrees with the records to which its moves lead
 pub record Agrees-at (a : Arena) (bs : List ℕ) (p : ℕ) : Type 0 where
   pub front : take 8 (drop (entry-at p) bs) ≡ front (count-told bs p) (spoiling-told bs p)
-  pub blank : (x : ℕ) → 2 ^ a .inputs ≤ x → x < 16 → answer-told bs p x ≡ 0
-  pub best : (x : ℕ) → x < 2 ^ a .inputs → Most (2 ^ a .outputs) (λ y. count-in bs (a .move p x y)) (answer-told bs p x)
+  pub answers : Answers-agree a bs p
   pub follows : Follows (count-told bs p) (2 ^ a .inputs) (λ x. count-in bs (a .move p x (answer-told bs p x))) (spoiling-told bs p)
 
 pub record Agrees (a : Arena) (bs : List ℕ) : Type 0 where

@@ -1,4 +1,5 @@
-// Solving a game into its play book.
+// Solving a game into its play book, and accepting a book.
+pub mod accept;
 mod pick;
 pub mod solve;
 mod sweep;

@@ -1,10 +1,8 @@
-use Prim.Native.Nat.{_≤_}
-use mathlib.Core.Path.{_≡_, refl, sym, subst}
+use mathlib.Core.Path.{refl}
 use native.Mathlib.Omega.{arith}
-use Rattle.arena.specs.Control.{Proper}
+use lib.ListN.{take}
 use Rattle.arena.proofs.SettleLaws.{in-time}
-use Rattle.arena.proofs.ControlLaws.{counts-right, held-right}
-use Rattle.arena.proofs.CountLaws.{counts-once}
+use Rattle.arena.proofs.ControlLaws.{held-right, values-proper}
 use Rattle.arena.proofs.ValueLaws.{values}
 use Rattle.arena.proofs.BookLaws.{one-book}
 use Rattle.book.specs.Solving.{none, sweeps, short}
@@ -24,16 +22,12 @@ returns g c =
     let a = g .G·Game .meaning (c .args .g .now) in
     let sound = g .G·Game .sound (c .args .g .now) in
     let b = c .write-book .ensures in
-    let v = values a in
     record {
       long = omega arith;
-      values = v;
-      book = b .0 v;
-      only = λ bytes h. one-book a bytes _ h (v, b .0 v);
-      proper = λ p n. (
-        (λ e. subst (Proper a p) e (counts-right a sound p (v .count p) .0 (v .counts p))),
-        λ h. counts-once a p _ _ (v .counts p) (counts-right a sound p n .1 h),
-      );
+      values = values a;
+      book = b .0 (values a);
+      only = λ bytes h. one-book a bytes _ h (values a, b .0 (values a));
+      proper = values-proper sound (values a);
       held = held-right a sound;
       rest = b .1;
     }
