@@ -1,12 +1,11 @@
--- A drawn arena is sound, and is the drawn game.
-use Prim.Native.Nat.{ℕ, zero, suc, _^_, _≤_, _<_}
+-- A drawn arena is sound.
+use Prim.Native.Nat.{ℕ, zero, suc, _≤_}
 use mathlib.Core.Path.{_≡_, refl}
 use mathlib.Core.List.{List}
-use mathlib.Core.Logic.{_⊎_, inl, inr}
-use mathlib.Core.Bool.{true, false, cond}
+use mathlib.Core.Logic.{inl, inr}
+use mathlib.Core.Bool.{true, false}
 use native.Mathlib.Omega.{arith}
 use Rattle.std.proofs.shelf.Ways.{tells}
-use Rattle.std.proofs.shelf.Tests.{cases-bool}
 use Rattle.arena.specs.declared.shape.Shape.{Shape}
 use Rattle.arena.specs.Arena.{Sound, beyond}
 use Rattle.arena.specs.Diagram.{drawn, drawable, told, sought, word, head-at, next-at}

@@ -9,3 +9,7 @@ pub mod CountLaws
 pub mod ValueLaws
 pub mod ControlLaws
 pub mod BookLaws
+pub mod RowLaws
+pub mod ChainLaws
+pub mod DrawnLaws
+pub mod OutcomeLaws

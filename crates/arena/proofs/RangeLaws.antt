@@ -14,3 +14,8 @@ in-range n i o p x y h = grind (arith, tells)
 pub range-beyond : (n i o p x y : ℕ) → (p ≡ 0) ⊎ ((n < p) ⊎ ((2 ^ i ≤ x) ⊎ (2 ^ o ≤ y))) → beyond n i o p x y ≡ true
 unfolding beyond
 range-beyond n i o p x y h = grind (arith, tells)
+
+-- what is in range is not beyond it
+pub range-within : (n i o p x y : ℕ) → 1 ≤ p → p ≤ n → x < 2 ^ i → y < 2 ^ o → beyond n i o p x y ≡ false
+unfolding beyond
+range-within n i o p x y l h a b = grind (arith, tells)

@@ -8,3 +8,5 @@ pub mod Count
 pub mod Values
 pub mod Control
 pub mod Book
+pub mod Tally
+pub mod Rows

@@ -1,0 +1,4 @@
+// Runs by a book.
+pub mod replay;
+pub mod run;
+pub mod stage;
