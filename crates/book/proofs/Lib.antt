@@ -2,5 +2,5 @@ mod RankLaws
 mod PickLaws
 mod WriteLaws
 mod AgreeLaws
-mod ToldLaws
+pub mod ToldLaws
 mod AcceptLaws

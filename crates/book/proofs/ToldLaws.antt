@@ -153,11 +153,14 @@ follows-same Unlimited m f g s e h = (h .0, λ x l. sym (e x l) ∙ h .1 x l)
 
 module _ (a : Arena) (sound : Sound a) (v : Values a) (bs : List ℕ) (b : Book a v bs) where
   -- a position is not lost
-  not-lost : (p : ℕ) → Place a p → v .count p ≡ Lost → ⊥
+  pub not-lost : (p : ℕ) → Place a p → v .count p ≡ Lost → ⊥
   not-lost p i e = unfold Counts in subst (Counts a p) e (v .counts p) i
 
-  lost-count : v .count 0 ≡ Lost
+  pub lost-count : v .count 0 ≡ Lost
   lost-count = counts-once a 0 _ Lost (v .counts 0) (unfold Counts in λ i. omega arith)
+
+  pub lost-spoiling : v .spoiling 0 ≡ None
+  lost-spoiling = subst (λ c. Spoils c (2 ^ a .inputs) (λ x. v .count (a .move 0 x (v .answer 0 x))) (v .spoiling 0)) lost-count (v .spoils 0)
 
   -- a byte of the record of p
   entry-byte : (p k : ℕ) (i : Place a p) → k < 24 → getD bs (entry-at p + k) 0 ≡ getD (front (v .count p) (v .spoiling p) ++ b .entries p i .answers) k 0

@@ -12,6 +12,7 @@ use Rattle.arena.specs.declared.call.Call.the-variants.{Open, Set, Close, Aband
 use Rattle.arena.specs.declared.call.Reply.{Reply}
 use Rattle.arena.specs.declared.call.Reply.the-variants.{Output, Changed, Closed, Abandoned, Position, Left, Spoiling, Refused, NotAllowed}
 use Rattle.arena.specs.declared.call.Standing.{Standing}
+use Rattle.arena.specs.declared.call.Step.{Step}
 use Rattle.arena.specs.declared.refusal.Refusal.{Refusal}
 use Rattle.arena.specs.declared.refusal.Refusal.the-variants.{OutOfRange}
 use Rattle.arena.specs.Arena.{Arena}
@@ -75,3 +76,8 @@ standing-of (Err e) c = Err e
 
 abbrev pub standing-at : List ℕ → ℕ → Result Standing Refusal
 standing-at bs p = standing-of (position-at bs p) (count-at bs p)
+
+-- a reply, with where the run then stands
+abbrev pub step-of : Reply → Result Standing Refusal → Result Step Refusal
+step-of r (Ok s) = Ok (record { reply = r; standing = s })
+step-of r (Err e) = Err e

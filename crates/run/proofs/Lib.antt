@@ -1,0 +1,2 @@
+mod StageLaws
+mod StepLaws
