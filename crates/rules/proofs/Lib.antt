@@ -1,0 +1,13 @@
+pub mod FailLaws
+pub mod BitLaws
+pub mod SetLaws
+pub mod PartLaws
+pub mod ProgressLaws
+pub mod TableLaws
+pub mod TrimLaws
+pub mod CompileLaws
+pub mod GameLaws
+pub mod OneLaws
+pub mod ReachLaws
+pub mod FitLaws
+pub mod StepLaws

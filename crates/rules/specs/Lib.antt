@@ -1,0 +1,9 @@
+pub mod Rule
+pub mod Cosafe
+pub mod Sets
+pub mod Parts
+pub mod Table
+pub mod Progress
+pub mod Explore
+pub mod Game
+pub mod Claims
