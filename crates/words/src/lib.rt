@@ -1,0 +1,2 @@
+// The words of a text, and the signals text.
+pub mod word;
