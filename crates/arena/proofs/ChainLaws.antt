@@ -11,7 +11,8 @@ use Rattle.std.proofs.shelf.Lists.{append-nil, append-assoc, length-append, len
 use Rattle.std.proofs.shelf.Sums.{sumBy-set, countBy-le-length}
 use Rattle.std.proofs.shelf.Tests.{cases-eq}
 use Rattle.arena.specs.declared.shape.Shape.{Shape}
-use Rattle.arena.specs.Diagram.{word, head-at, next-at, Record, Path, Chain, Chains, In, Distinct, Repeats, Unrepeated}
+use Rattle.arena.specs.Diagram.{head-at, next-at, Record, Path, Chain, Chains, In, Distinct, Repeats, Unrepeated}
+use Rattle.arena.specs.Bytes.{word}
 
 -- ---- one of a list
 

@@ -8,7 +8,8 @@ use native.Mathlib.Omega.{arith}
 use Rattle.std.proofs.shelf.Ways.{tells}
 use Rattle.arena.specs.declared.shape.Shape.{Shape}
 use Rattle.arena.specs.Arena.{Sound, beyond}
-use Rattle.arena.specs.Diagram.{drawn, drawable, told, sought, word, head-at, next-at}
+use Rattle.arena.specs.Diagram.{drawn, drawable, told, sought, head-at, next-at}
+use Rattle.arena.specs.Bytes.{word}
 use Rattle.arena.proofs.RangeLaws.{in-range, range-beyond}
 
 -- no destination is above the size

@@ -12,15 +12,9 @@ use Rattle.arena.specs.declared.shape.Shape.{Shape}
 use Rattle.arena.specs.declared.refusal.Refusal.{Refusal}
 use Rattle.arena.specs.declared.refusal.Refusal.the-variants.{DiagramField, DiagramChain, DiagramRepeat}
 use Rattle.arena.specs.Arena.{Arena, Place, beyond}
+use Rattle.arena.specs.Bytes.{byte, word}
 
 -- ---- where the bytes stand
-
--- the byte at a place, 0 past the end; and two bytes as a number, the higher first
-abbrev pub byte : List ℕ → ℕ → ℕ
-byte bs k = getD bs k 0
-
-abbrev pub word : List ℕ → ℕ → ℕ
-word bs k = 256 * byte bs k + byte bs (k + 1)
 
 -- the numbers in the header
 abbrev pub shape-of : List ℕ → Shape

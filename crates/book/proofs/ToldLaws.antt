@@ -171,7 +171,9 @@ module _ (a : Arena) (sound : Sound a) (v : Values a) (bs : List ℕ) (b : Book 
   flag-is p i = let e : entry-at p + 0 ≡ entry-at p = omega arith in ap (λ k. getD bs k 0) (sym e) ∙ entry-byte p 0 i (omega arith)
 
   pub told-count-is : (p : ℕ) → Place a p → count-told bs p ≡ v .count p
-  told-count-is p i = told-count (v .count p) _ _ _ (not-lost p i) (flag-is p i) (entry-byte p 4 i (omega arith)) (entry-byte p 5 i (omega arith))
+  told-count-is p i =
+      let e : (entry-at p + 4) + 1 ≡ entry-at p + 5 = omega arith in
+      told-count (v .count p) _ _ _ (not-lost p i) (flag-is p i) (entry-byte p 4 i (omega arith)) (ap (λ k. getD bs k 0) e ∙ entry-byte p 5 i (omega arith))
 
   pub told-spoiling-is : (p : ℕ) → Place a p → spoiling-told bs p ≡ v .spoiling p
   told-spoiling-is p i = told-spoiling (v .count p) _ _ (v .spoiling p) _ _ (not-lost p i) (v .spoils p) (flag-is p i) (entry-byte p 6 i (omega arith))

@@ -10,31 +10,17 @@ ghost use Rattle.arena.specs.Book.{front, header, entry-at, book-length};
 ghost use Rattle.book.specs.Told.{count-told, spoiling-told, answer-told, count-in};
 ghost use Rattle.book.specs.Agreeing.{Follows, Expected, Answers-agree, Agrees-at, Agrees};
 ghost use Rattle.book.specs.Accepting.{Accepted, Unaccepted};
+use crate::told::answer_told;
+use crate::told::count_told;
+use crate::told::entry_at;
+use crate::told::flag_told;
+use crate::told::spoiling_told;
+use arena::bytes::byte_at;
 use arena::count::Count;
 use arena::refusal::Refusal;
 use game::game::Game;
 use game::game::input_count;
 use game::game::output_count;
-
-// The count in the record of p.
-fn count_told(book: &[u8], p: u8) -> Count
-    requires { ⌜ 1 ≤ p ⌝ ∗ ⌜ book-length p ≤ length (now book) ⌝ }
-    ensures { λ r. ⌜ r ≡ count-told (now (book .entry)) p ⌝ }
-{
-    let at = 8 + 24 * (p as usize - 1);
-    if book[at] == 1 {
-        return Count::Unlimited;
-    }
-    Count::Limited(256 * book[at + 4] as u16 + book[at + 5] as u16)
-}
-
-// The answer to x in the record of p.
-fn answer_told(book: &[u8], p: u8, x: u8) -> u8
-    requires { ⌜ 1 ≤ p ⌝ ∗ ⌜ x < 16 ⌝ ∗ ⌜ book-length p ≤ length (now book) ⌝ }
-    ensures { λ r. ⌜ r ≡ answer-told (now (book .entry)) p x ⌝ }
-{
-    book[8 + 24 * (p as usize - 1) + (8 + x as usize)]
-}
 
 // The count where a move leads.
 fn move_count<G: Game>(g: &G, book: &[u8], p: u8, x: u8, y: u8) -> Count
@@ -113,11 +99,10 @@ fn count_follows<G: Game>(g: &G, book: &[u8], p: u8) -> bool
 {
     let x = worst_input(g, book, p);
     let low = move_count(g, book, p, x, answer_told(book, p, x));
-    let at = 8 + 24 * (p as usize - 1);
-    if book[at] == 1 {
+    if flag_told(book, p) == 1 {
         return Count::Unlimited.is_at_most(low);
     }
-    book[at + 6] == x && count_told(book, p).is_one_more(low)
+    byte_at(book, entry_at(p) + 6) == x && count_told(book, p).is_one_more(low)
 }
 
 // A record's first eight bytes for a count and a spoiling input.
@@ -132,24 +117,12 @@ fn front_of(count: Count, spoiling: Option<u8>) -> [u8; 8]
     }
 }
 
-// The spoiling input in the record of p.
-fn spoiling_told(book: &[u8], p: u8) -> Option<u8>
-    requires { ⌜ 1 ≤ p ⌝ ∗ ⌜ book-length p ≤ length (now book) ⌝ }
-    ensures { λ r. ⌜ r ≡ spoiling-told (now (book .entry)) p ⌝ }
-{
-    let at = 8 + 24 * (p as usize - 1);
-    if book[at] == 1 {
-        return None;
-    }
-    Some(book[at + 6])
-}
-
 // Whether the first eight bytes of the record of p are those of the count and the spoiling input that they tell.
 fn front_agrees(book: &[u8], p: u8) -> bool
     requires { ⌜ 1 ≤ p ⌝ ∗ ⌜ book-length p ≤ length (now book) ⌝ }
     ensures { λ r. ⌜ Decides r (take 8 (drop (entry-at p) (now (book .entry))) ≡ front (count-told (now (book .entry)) p) (spoiling-told (now (book .entry)) p)) ⌝ }
 {
-    let at = 8 + 24 * (p as usize - 1);
+    let at = entry_at(p);
     let expected = front_of(count_told(book, p), spoiling_told(book, p));
     book[at..at + 8] == expected[..]
 }

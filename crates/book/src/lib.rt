@@ -1,6 +1,7 @@
-// Solving a game into its play book, and accepting a book.
+// Solving a game into its play book, accepting a book, and what a book tells.
 pub mod accept;
 mod pick;
 pub mod solve;
 mod sweep;
+pub mod told;
 mod write;

@@ -6,7 +6,8 @@ use mathlib.Core.Logic.{_⊎_}
 use mathlib.Core.Bool.{Bool, true, false}
 use lib.ListN.{getD}
 use Rattle.arena.specs.declared.shape.Shape.{Shape}
-use Rattle.arena.specs.Diagram.{word, head-at, next-at, input-of, output-of, Record, Record-right, First, Path, Chain, Chains, In, Distinct, Repeats, Unrepeated}
+use Rattle.arena.specs.Diagram.{head-at, next-at, input-of, output-of, Record, Record-right, First, Path, Chain, Chains, In, Distinct, Repeats, Unrepeated}
+use Rattle.arena.specs.Bytes.{word}
 
 -- every field of a record that begins below the place k is right
 abbrev pub Right-below : Shape → List ℕ → ℕ → Type 0

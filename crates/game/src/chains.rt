@@ -8,10 +8,10 @@ ghost use Rattle.std.specs.Options.{Cases as BySome};
 ghost use Rattle.std.specs.Results.{Cases};
 ghost use Rattle.arena.specs.Diagram.{shape-of, Record, Chain, Distinct, Fielded, Linked, Unrepeated, First, Refused};
 ghost use Rattle.game.specs.Reading.{Marks, Chain-whole, Chain-broken, Chains-whole, Chains-broken, Move-number, Chain-repeats, Chains-fresh, Chains-repeat};
-use crate::fields::byte_at;
 use crate::fields::head_at;
 use crate::fields::record_at;
-use crate::fields::word_at;
+use arena::bytes::byte_at;
+use arena::bytes::word_at;
 use arena::refusal::Refusal;
 use arena::shape::Shape;
 

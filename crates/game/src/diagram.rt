@@ -8,13 +8,13 @@ ghost use Rattle.arena.specs.Diagram.{drawn, told, sought, head-at, Well-formed
 ghost use Rattle.arena.proofs.DiagramLaws.{drawn-sound};
 use crate::chains::check_chains;
 use crate::chains::check_moves;
-use crate::fields::byte_at;
 use crate::fields::check_fields;
 use crate::fields::head_at;
 use crate::fields::record_at;
-use crate::fields::word_at;
 use crate::game::Game;
 use crate::range::is_beyond;
+use arena::bytes::byte_at;
+use arena::bytes::word_at;
 use arena::refusal::Refusal;
 use arena::shape::Shape;
 

@@ -3,26 +3,14 @@ ghost use mathlib.Core.Path.{_≡_};
 ghost use Prim.Native.Nat.{ℕ, _+_, _*_, _<_, _≤_, _^_};
 ghost use Rattle.std.specs.Options.{Cases as BySome};
 ghost use Rattle.std.specs.Results.{Cases};
-ghost use Rattle.arena.specs.Diagram.{byte, word, shape-of, head-at, record-at, Record, Header-right, Record-right, Fielded, First, Refused};
+ghost use Rattle.arena.specs.Diagram.{shape-of, head-at, record-at, Record, Header-right, Record-right, Fielded, First, Refused};
+ghost use Rattle.arena.specs.Bytes.{byte, word};
 ghost use Rattle.game.specs.Reading.{Right-below, Wrong-first};
 use crate::range::count_of;
+use arena::bytes::byte_at;
+use arena::bytes::word_at;
 use arena::refusal::Refusal;
 use arena::shape::Shape;
-
-// The byte at a place, 0 past the end.
-pub(crate) fn byte_at(bytes: &[u8], k: usize) -> u8
-    ensures { λ r. ⌜ r ≡ byte (now (bytes .entry)) k ⌝ }
-{
-    if k < bytes.len() { bytes[k] } else { 0 }
-}
-
-// Two bytes as a number, the higher first.
-pub(crate) fn word_at(bytes: &[u8], k: usize) -> u16
-    requires { ⌜ k < 2 ^ 32 ⌝ }
-    ensures { λ r. ⌜ r ≡ word (now (bytes .entry)) k ⌝ }
-{
-    256 * byte_at(bytes, k) as u16 + byte_at(bytes, k + 1) as u16
-}
 
 // Where the head of position p stands.
 pub(crate) fn head_at(p: u8) -> usize

@@ -1,15 +1,14 @@
 // A run between rounds, and an open round, as values that must be spent.
 ghost use mathlib.Core.Path.{_≡_};
-ghost use mathlib.Core.Bool.{true, false};
-ghost use Prim.Native.Nat.{ℕ, _+_, _≤_};
-ghost use lib.ListN.{length};
-ghost use Rattle.std.specs.Options.{Cases as BySome};
-ghost use Rattle.arena.specs.Book.{entry-at};
 ghost use Rattle.run.specs.Calls.{readable, position-at, count-at, spoiling-at, open-at, set-at, set-result};
 ghost use Rattle.run.specs.Promise.{Started};
 use arena::count::Count;
 use arena::refusal::Refusal;
 use book::accept::accept;
+use book::told::answer_told;
+use book::told::count_told;
+use book::told::flag_told;
+use book::told::spoiling_told;
 use game::game::Game;
 use game::game::input_count;
 use game::game::output_count;
@@ -47,20 +46,12 @@ pub struct Declined {
     pub refusal: Refusal,
 }
 
-// Where the record of a position begins, if the book has it and its status is 1 or 2.
-fn record_of(book: &[u8], p: u8) -> Option<usize>
-    requires { ⌜ 1 ≤ p ⌝ }
-    ensures { λ r. ⌜ BySome r (readable (now (book .entry)) p ≡ false) (λ at. (at ≡ entry-at p) × (readable (now (book .entry)) p ≡ true) × (at + 24 ≤ length (now (book .entry)))) ⌝ }
+// Whether the book has the record of a position, with a status.
+fn has_record(book: &[u8], p: u8) -> bool
+    ensures { λ r. ⌜ r ≡ readable (now (book .entry)) p ⌝ }
 {
-    let at = 8 + 24 * (p as usize - 1);
-    if at + 24 > book.len() {
-        return None;
-    }
-    if book[at] == 1 || book[at] == 2 {
-        Some(at)
-    } else {
-        None
-    }
+    let flag = flag_told(book, p);
+    8 + 24 * p as usize <= book.len() && (flag == 1 || flag == 2)
 }
 
 fn position_at(book: &[u8], p: u8) -> Result<Option<u8>, Refusal>
@@ -69,10 +60,10 @@ fn position_at(book: &[u8], p: u8) -> Result<Option<u8>, Refusal>
     if p == 0 {
         return Ok(None);
     }
-    match record_of(book, p) {
-        Some(_) => Ok(Some(p)),
-        None => Err(Refusal::NotThisBook),
+    if !has_record(book, p) {
+        return Err(Refusal::NotThisBook);
     }
+    Ok(Some(p))
 }
 
 fn count_at(book: &[u8], p: u8) -> Result<Count, Refusal>
@@ -81,15 +72,10 @@ fn count_at(book: &[u8], p: u8) -> Result<Count, Refusal>
     if p == 0 {
         return Ok(Count::Lost);
     }
-    match record_of(book, p) {
-        Some(at) => {
-            if book[at] == 1 {
-                return Ok(Count::Unlimited);
-            }
-            Ok(Count::Limited(256 * book[at + 4] as u16 + book[at + 5] as u16))
-        }
-        None => Err(Refusal::NotThisBook),
+    if !has_record(book, p) {
+        return Err(Refusal::NotThisBook);
     }
+    Ok(count_told(book, p))
 }
 
 fn spoiling_at(book: &[u8], p: u8) -> Result<Option<u8>, Refusal>
@@ -98,15 +84,10 @@ fn spoiling_at(book: &[u8], p: u8) -> Result<Option<u8>, Refusal>
     if p == 0 {
         return Ok(None);
     }
-    match record_of(book, p) {
-        Some(at) => {
-            if book[at] == 1 {
-                return Ok(None);
-            }
-            Ok(Some(book[at + 6]))
-        }
-        None => Err(Refusal::NotThisBook),
+    if !has_record(book, p) {
+        return Err(Refusal::NotThisBook);
     }
+    Ok(spoiling_told(book, p))
 }
 
 impl Run {
@@ -131,12 +112,12 @@ impl Run {
                 refusal: Refusal::RunLost,
             });
         }
-        let Some(at) = record_of(book, position) else {
+        if !has_record(book, position) {
             return Err(Declined {
                 run: Run { position },
                 refusal: Refusal::NotThisBook,
             });
-        };
+        }
         if input >= input_count(game) {
             return Err(Declined {
                 run: Run { position },
@@ -146,7 +127,7 @@ impl Run {
         Ok(Round {
             position,
             input,
-            output: book[at + (8 + input as usize)],
+            output: answer_told(book, position, input),
         })
     }
 
