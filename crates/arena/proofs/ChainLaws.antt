@@ -10,9 +10,9 @@ use Rattle.std.specs.shelf.Lists.{countBy}
 use Rattle.std.proofs.shelf.Lists.{append-nil, append-assoc, length-append, length-set, length-replicate, getD-replicate, getD-set-other}
 use Rattle.std.proofs.shelf.Sums.{sumBy-set, countBy-le-length}
 use Rattle.std.proofs.shelf.Tests.{cases-eq}
-use Rattle.arena.specs.declared.shape.Shape.{Shape}
+use Rattle.terms.specs.declared.shape.Shape.{Shape}
 use Rattle.arena.specs.Diagram.{head-at, next-at, Record, Path, Chain, Chains, In, Distinct, Repeats, Unrepeated}
-use Rattle.arena.specs.Bytes.{word}
+use Rattle.terms.specs.Bytes.{word}
 
 -- ---- one of a list
 

@@ -9,8 +9,8 @@ use lib.ListN.{length, getD, take, replicate, length-replicate}
 use lib.Pow.{pow-pos}
 use Rattle.std.proofs.shelf.Lists.{getD-replicate}
 use Rattle.std.proofs.shelf.Tests.{cases-lt}
-use Rattle.arena.specs.declared.count.Count.{Count}
-use Rattle.arena.specs.declared.count.Count.the-variants.{Lost, Limited, Unlimited}
+use Rattle.terms.specs.declared.count.Count.{Count}
+use Rattle.terms.specs.declared.count.Count.the-variants.{Lost, Limited, Unlimited}
 use Rattle.arena.specs.Arena.{Arena, Place, Sound}
 use Rattle.arena.specs.Held.{Held}
 use Rattle.arena.specs.Control.{Controller, Inputs, led, plays, Holds, Can-hold, Limited-to, Unlimited-by, Proper}

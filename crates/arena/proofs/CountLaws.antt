@@ -5,11 +5,12 @@ use mathlib.Core.Logic.{inl, inr}
 use native.Mathlib.Omega.{arith}
 use Rattle.std.proofs.shelf.Tests.{cases-bool, cases-lt}
 use Rattle.std.proofs.shelf.Ways.{not-from-decides}
-use Rattle.arena.specs.declared.count.Count.{Count}
-use Rattle.arena.specs.declared.count.Count.the-variants.{Lost, Limited, Unlimited}
+use Rattle.terms.specs.declared.count.Count.{Count}
+use Rattle.terms.specs.declared.count.Count.the-variants.{Lost, Limited, Unlimited}
 use Rattle.arena.specs.Arena.{Arena}
 use Rattle.arena.specs.Held.{Held, Settled}
-use Rattle.arena.specs.Count.{At-most, Below, plus, Counts}
+use Rattle.terms.specs.Order.{At-most, Below, plus}
+use Rattle.arena.specs.Count.{Counts}
 use Rattle.arena.proofs.HeldLaws.{held, held-decides, held-place, held-down, settled-stays}
 use Rattle.arena.proofs.SettleLaws.{settles}
 

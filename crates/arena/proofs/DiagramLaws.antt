@@ -6,10 +6,10 @@ use mathlib.Core.Logic.{inl, inr}
 use mathlib.Core.Bool.{true, false}
 use native.Mathlib.Omega.{arith}
 use Rattle.std.proofs.shelf.Ways.{tells}
-use Rattle.arena.specs.declared.shape.Shape.{Shape}
+use Rattle.terms.specs.declared.shape.Shape.{Shape}
 use Rattle.arena.specs.Arena.{Sound, beyond}
 use Rattle.arena.specs.Diagram.{drawn, drawable, told, sought, head-at, next-at}
-use Rattle.arena.specs.Bytes.{word}
+use Rattle.terms.specs.Bytes.{word}
 use Rattle.arena.proofs.RangeLaws.{in-range, range-beyond}
 
 -- no destination is above the size

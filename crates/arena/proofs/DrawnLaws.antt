@@ -10,10 +10,10 @@ use lib.ListN.{length}
 use Rattle.std.proofs.shelf.Lists.{length-append}
 use Rattle.std.proofs.shelf.Ways.{tells}
 use Rattle.std.proofs.shelf.Tests.{le-leb, cond-true, cond-false, cond-both}
-use Rattle.arena.specs.declared.shape.Shape.{Shape}
+use Rattle.terms.specs.declared.shape.Shape.{Shape}
 use Rattle.arena.specs.Arena.{beyond}
 use Rattle.arena.specs.Diagram.{shape-of, head-at, next-at, input-of, output-of, destination-of, Record, Headed, Path, Chain, In, Distinct, Unrepeated, Well-formed, Draws, sought, drawable, told, drawn}
-use Rattle.arena.specs.Bytes.{word}
+use Rattle.terms.specs.Bytes.{word}
 use Rattle.arena.proofs.RangeLaws.{range-within}
 use Rattle.arena.proofs.DiagramLaws.{told-all}
 use Rattle.arena.proofs.ChainLaws.{in-parts, distinct-left, distinct-right, at-most, path-part, path-records, chain-once, chains-part}

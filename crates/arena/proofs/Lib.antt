@@ -3,8 +3,6 @@ pub mod PairLaws
 pub mod DiagramLaws
 pub mod HeldLaws
 pub mod SettleLaws
-pub mod BestLaws
-pub mod OrderLaws
 pub mod CountLaws
 pub mod ValueLaws
 pub mod ControlLaws

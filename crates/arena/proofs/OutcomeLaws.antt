@@ -6,11 +6,11 @@ use mathlib.Core.Logic.{_⊎_, inl, inr}
 use native.Mathlib.Omega.{arith}
 use Rattle.std.proofs.shelf.Lists.{append-assoc}
 use Rattle.std.proofs.shelf.Tests.{cases-order}
-use Rattle.arena.specs.declared.shape.Shape.{Shape}
-use Rattle.arena.specs.declared.refusal.Refusal.{Refusal}
-use Rattle.arena.specs.declared.refusal.Refusal.the-variants.{DiagramField, DiagramChain, DiagramRepeat}
+use Rattle.terms.specs.declared.shape.Shape.{Shape}
+use Rattle.terms.specs.declared.refusal.Refusal.{Refusal}
+use Rattle.terms.specs.declared.refusal.Refusal.the-variants.{DiagramField, DiagramChain, DiagramRepeat}
 use Rattle.arena.specs.Diagram.{shape-of, head-at, record-at, next-at, Record, Record-right, Header-right, Fielded, Path, Chain, Chains, In, Distinct, Linked, Repeats, Unrepeated, Well-formed, First, Field-wrong, Index-wrong, Unreached, Repeated, Refused}
-use Rattle.arena.specs.Bytes.{word}
+use Rattle.terms.specs.Bytes.{word}
 use Rattle.arena.proofs.ChainLaws.{distinct-left, distinct-apart, in-either, path-part, path-records, fork, chain-begins, chains-once, chains-part, chains-records}
 
 -- a kind has one first number

@@ -9,16 +9,16 @@ use lib.Dec.{ltb, eqb}
 use lib.ListN.{length}
 use Rattle.std.proofs.shelf.Tests.{cases-eq, cond-both, eqb-false, ltb-true}
 use Rattle.std.specs.declared.option.Option.the-variants.{Some}
-use Rattle.arena.specs.declared.count.Count.{Count}
-use Rattle.arena.specs.declared.count.Count.the-variants.{Lost, Limited, Unlimited}
-use Rattle.arena.specs.declared.call.Call.{Call}
-use Rattle.arena.specs.declared.call.Call.the-variants.{Open, Set, Close, Abandon, AskPosition, AskCount, AskSpoiling}
+use Rattle.terms.specs.declared.count.Count.{Count}
+use Rattle.terms.specs.declared.count.Count.the-variants.{Lost, Limited, Unlimited}
+use Rattle.terms.specs.declared.call.Call.{Call}
+use Rattle.terms.specs.declared.call.Call.the-variants.{Open, Set, Close, Abandon, AskPosition, AskCount, AskSpoiling}
 use Rattle.arena.specs.Arena.{Arena, Place, Sound}
-use Rattle.arena.specs.Count.{At-most, plus}
+use Rattle.terms.specs.Order.{At-most, plus}
 use Rattle.arena.specs.Values.{Values}
 use Rattle.arena.specs.Tally.{Played, Tally, between, during, closed, leads, place, opened, after, tallied, tally}
 use Rattle.arena.specs.Rows.{Following, Spoiled, Loses-at-most, Loses-at-least}
-use Rattle.arena.proofs.OrderLaws.{at-most-refl, at-most-trans, plus-none, plus-plus, plus-at-most}
+use Rattle.terms.proofs.OrderLaws.{at-most-refl, at-most-trans, plus-none, plus-plus, plus-at-most}
 use Rattle.arena.proofs.ValueLaws.{answer-costs, spoils-costs}
 
 -- each round had an input that exists

@@ -6,16 +6,17 @@ use native.Mathlib.Omega.{arith}
 use lib.Pow.{pow-pos}
 use Rattle.std.specs.declared.option.Option.{Option}
 use Rattle.std.specs.declared.option.Option.the-variants.{Some, None}
-use Rattle.arena.specs.declared.count.Count.{Count}
-use Rattle.arena.specs.declared.count.Count.the-variants.{Lost, Limited, Unlimited}
+use Rattle.terms.specs.declared.count.Count.{Count}
+use Rattle.terms.specs.declared.count.Count.the-variants.{Lost, Limited, Unlimited}
 use Rattle.std.proofs.shelf.Tests.{cases-lt}
 use Rattle.arena.specs.Arena.{Arena, Place, Sound}
 use Rattle.arena.specs.Held.{Held}
-use Rattle.arena.specs.Count.{At-most, plus, Counts, Most, Least}
+use Rattle.terms.specs.Order.{At-most, plus, Most, Least}
+use Rattle.arena.specs.Count.{Counts}
 use Rattle.arena.specs.Values.{Spoils, Values}
 use Rattle.arena.proofs.HeldLaws.{held-place}
-use Rattle.arena.proofs.BestLaws.{reversed, some-best, best-once, best-same}
-use Rattle.arena.proofs.OrderLaws.{count-order, plus-at-most}
+use Rattle.terms.proofs.BestLaws.{reversed, some-best, best-once, best-same}
+use Rattle.terms.proofs.OrderLaws.{count-order, plus-at-most}
 use Rattle.arena.proofs.CountLaws.{held-counts, counts-held, always-counts, at-most-held, unheld-counts, counts-once, counted}
 
 -- ---- they exist

@@ -8,11 +8,11 @@ use mathlib.Core.Logic.{_⊎_, _≢_}
 use mathlib.Core.Bool.{Bool, _&&_, cond}
 use lib.Dec.{leb, eqb}
 use lib.ListN.{length, getD}
-use Rattle.arena.specs.declared.shape.Shape.{Shape}
-use Rattle.arena.specs.declared.refusal.Refusal.{Refusal}
-use Rattle.arena.specs.declared.refusal.Refusal.the-variants.{DiagramField, DiagramChain, DiagramRepeat}
+use Rattle.terms.specs.declared.shape.Shape.{Shape}
+use Rattle.terms.specs.declared.refusal.Refusal.{Refusal}
+use Rattle.terms.specs.declared.refusal.Refusal.the-variants.{DiagramField, DiagramChain, DiagramRepeat}
 use Rattle.arena.specs.Arena.{Arena, Place, beyond}
-use Rattle.arena.specs.Bytes.{byte, word}
+use Rattle.terms.specs.Bytes.{byte, word}
 
 -- ---- where the bytes stand
 

@@ -1,10 +1,7 @@
-pub mod Refusals
 pub mod Arena
 pub mod Pair
-pub mod Bytes
 pub mod Diagram
 pub mod Held
-pub mod Best
 pub mod Count
 pub mod Values
 pub mod Control

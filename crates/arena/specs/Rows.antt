@@ -4,9 +4,9 @@ use mathlib.Core.Path.{_≡_}
 use mathlib.Core.List.{List, [], _∷_}
 use lib.ListN.{length}
 use Rattle.std.specs.declared.option.Option.the-variants.{Some}
-use Rattle.arena.specs.declared.call.Call.{Call}
+use Rattle.terms.specs.declared.call.Call.{Call}
 use Rattle.arena.specs.Arena.{Arena}
-use Rattle.arena.specs.Count.{At-most, plus}
+use Rattle.terms.specs.Order.{At-most, plus}
 use Rattle.arena.specs.Values.{Values}
 use Rattle.arena.specs.Tally.{Played, closed, place, tally}
 

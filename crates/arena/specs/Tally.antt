@@ -7,13 +7,13 @@ use mathlib.Core.Bool.{cond}
 use lib.Dec.{ltb, eqb}
 use Rattle.std.specs.declared.option.Option.{Option}
 use Rattle.std.specs.declared.option.Option.the-variants.{Some, None}
-use Rattle.arena.specs.declared.call.Call.{Call}
-use Rattle.arena.specs.declared.call.Call.the-variants.{Open, Set, Close, Abandon, AskPosition, AskCount, AskSpoiling}
-use Rattle.arena.specs.declared.call.Reply.{Reply}
-use Rattle.arena.specs.declared.call.Reply.the-variants.{Output, Changed, Closed, Abandoned, Position, Left, Spoiling, Refused, NotAllowed}
-use Rattle.arena.specs.declared.call.Standing.{Standing}
-use Rattle.arena.specs.declared.call.Step.{Step}
-use Rattle.arena.specs.declared.refusal.Refusal.the-variants.{OutOfRange, RunLost}
+use Rattle.terms.specs.declared.call.Call.{Call}
+use Rattle.terms.specs.declared.call.Call.the-variants.{Open, Set, Close, Abandon, AskPosition, AskCount, AskSpoiling}
+use Rattle.terms.specs.declared.call.Reply.{Reply}
+use Rattle.terms.specs.declared.call.Reply.the-variants.{Output, Changed, Closed, Abandoned, Position, Left, Spoiling, Refused, NotAllowed}
+use Rattle.terms.specs.declared.call.Standing.{Standing}
+use Rattle.terms.specs.declared.call.Step.{Step}
+use Rattle.terms.specs.declared.refusal.Refusal.the-variants.{OutOfRange, RunLost}
 use Rattle.arena.specs.Arena.{Arena}
 use Rattle.arena.specs.Values.{Values}
 

@@ -3,10 +3,11 @@ use Prim.Native.Nat.{ℕ, _^_, _<_}
 use mathlib.Core.Path.{_≡_}
 use Rattle.std.specs.declared.option.Option.{Option}
 use Rattle.std.specs.declared.option.Option.the-variants.{Some, None}
-use Rattle.arena.specs.declared.count.Count.{Count}
-use Rattle.arena.specs.declared.count.Count.the-variants.{Lost, Limited, Unlimited}
+use Rattle.terms.specs.declared.count.Count.{Count}
+use Rattle.terms.specs.declared.count.Count.the-variants.{Lost, Limited, Unlimited}
 use Rattle.arena.specs.Arena.{Arena, Place}
-use Rattle.arena.specs.Count.{Counts, Most, Least}
+use Rattle.terms.specs.Order.{Most, Least}
+use Rattle.arena.specs.Count.{Counts}
 
 -- s is the spoiling input of what counts c, where each of m inputs leads, by its answer, to a count: the input that
 -- leads to the least; only what is limited has one

@@ -7,12 +7,12 @@ use native.Mathlib.Omega.{arith}
 use Rattle.std.proofs.shelf.Tests.{cases-lt}
 use Rattle.std.specs.declared.option.Option.{Option}
 use Rattle.std.specs.declared.option.Option.the-variants.{Some, None}
-use Rattle.arena.specs.declared.count.Count.{Count}
-use Rattle.arena.specs.declared.count.Count.the-variants.{Lost, Limited, Unlimited}
+use Rattle.terms.specs.declared.count.Count.{Count}
+use Rattle.terms.specs.declared.count.Count.the-variants.{Lost, Limited, Unlimited}
 use Rattle.arena.specs.Arena.{Arena}
-use Rattle.arena.specs.Count.{At-most, plus, Least}
-use Rattle.arena.proofs.BestLaws.{best-once}
-use Rattle.arena.proofs.OrderLaws.{at-most-trans}
+use Rattle.terms.specs.Order.{At-most, plus, Least}
+use Rattle.terms.proofs.BestLaws.{best-once}
+use Rattle.terms.proofs.OrderLaws.{at-most-trans}
 use Rattle.book.specs.Agreeing.{Follows, Expected}
 
 -- an input has one right answer

@@ -6,13 +6,14 @@ use native.Mathlib.Omega.{arith}
 use Rattle.std.proofs.shelf.Tests.{cases-lt}
 use Rattle.std.specs.declared.option.Option.{Option}
 use Rattle.std.specs.declared.option.Option.the-variants.{None}
-use Rattle.arena.specs.declared.count.Count.{Count}
-use Rattle.arena.specs.declared.count.Count.the-variants.{Lost, Limited, Unlimited}
+use Rattle.terms.specs.declared.count.Count.{Count}
+use Rattle.terms.specs.declared.count.Count.the-variants.{Lost, Limited, Unlimited}
 use Rattle.arena.specs.Arena.{Arena, Place}
 use Rattle.arena.specs.Held.{Held}
-use Rattle.arena.specs.Count.{At-most, plus, Counts, Most, Least}
+use Rattle.terms.specs.Order.{At-most, plus, Most, Least}
+use Rattle.arena.specs.Count.{Counts}
 use Rattle.arena.specs.Values.{Spoils}
-use Rattle.arena.proofs.OrderLaws.{at-most-trans}
+use Rattle.terms.proofs.OrderLaws.{at-most-trans}
 use Rattle.book.specs.Agreeing.{Follows}
 
 -- at least j + 1 is one more than at least j

@@ -7,8 +7,8 @@ use native.Mathlib.Omega.{arith}
 use lib.ListN.{getD}
 use Rattle.std.proofs.shelf.Tests.{cases-eq, cases-lt}
 use Rattle.arena.specs.Arena.{Arena}
-use Rattle.arena.specs.Count.{At-most, Most, Least}
-use Rattle.arena.proofs.BestLaws.{best-map}
+use Rattle.terms.specs.Order.{At-most, Most, Least}
+use Rattle.terms.proofs.BestLaws.{best-map}
 use Rattle.book.specs.Ranks.{counts-of, Ready, Highest, Lowest, greatest}
 use Rattle.book.proofs.RankLaws.{rank-order, rank-below}
 

@@ -11,10 +11,11 @@ use lib.Seq.{getD-set-same, getD-set-other}
 use Rattle.std.specs.Orderings.{Decides}
 use Rattle.std.proofs.shelf.Tests.{cases-bool, cases-eq, cases-lt, leb-true, leb-false, le-leb, lt-leb}
 use Rattle.std.proofs.shelf.Ways.{tells}
-use Rattle.arena.specs.declared.count.Count.the-variants.{Lost, Limited, Unlimited}
+use Rattle.terms.specs.declared.count.Count.the-variants.{Lost, Limited, Unlimited}
 use Rattle.arena.specs.Arena.{Arena, Place}
 use Rattle.arena.specs.Held.{Held, Keeps, Settled}
-use Rattle.arena.specs.Count.{At-most, Below, Counts}
+use Rattle.terms.specs.Order.{At-most, Below}
+use Rattle.arena.specs.Count.{Counts}
 use Rattle.arena.proofs.HeldLaws.{held-place, held-less, held-down, settled-stays}
 use Rattle.book.specs.Ranks.{Tells, Ranks, Amid, Over, count-of, Ready}
 

@@ -15,16 +15,17 @@ use Rattle.std.proofs.shelf.Tests.{cases-eq, cases-lt, ne-eqb, le-leb, and-from
 use Rattle.std.proofs.shelf.Ways.{tells}
 use Rattle.std.specs.declared.option.Option.{Option}
 use Rattle.std.specs.declared.option.Option.the-variants.{Some, None}
-use Rattle.arena.specs.declared.count.Count.{Count}
-use Rattle.arena.specs.declared.count.Count.the-variants.{Lost, Limited, Unlimited}
+use Rattle.terms.specs.declared.count.Count.{Count}
+use Rattle.terms.specs.declared.count.Count.the-variants.{Lost, Limited, Unlimited}
 use Rattle.arena.specs.Arena.{Arena, Place, Sound}
-use Rattle.arena.specs.Count.{At-most, plus, Counts, Most, Least}
+use Rattle.terms.specs.Order.{At-most, plus, Most, Least}
+use Rattle.arena.specs.Count.{Counts}
 use Rattle.arena.specs.Values.{Spoils, Values}
 use Rattle.arena.specs.Book.{status, rounds, input-byte, front, Answer-bytes, Entry, header, entry-at, book-length, Book, Is-book}
-use Rattle.arena.proofs.OrderLaws.{at-most-antisym}
+use Rattle.terms.proofs.OrderLaws.{at-most-antisym}
 use Rattle.arena.proofs.CountLaws.{counts-once}
 use Rattle.arena.proofs.ValueLaws.{answer-costs, spoils-costs}
-use Rattle.arena.proofs.BestLaws.{best-same}
+use Rattle.terms.proofs.BestLaws.{best-same}
 use Rattle.book.specs.Told.{flag-told, count-told, spoiling-told, answer-told, count-in}
 use Rattle.book.specs.Agreeing.{Follows, Agrees-at, Agrees}
 use Rattle.book.proofs.AgreeLaws.{true-counts, true-spoils}

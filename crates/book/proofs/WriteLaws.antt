@@ -11,16 +11,17 @@ use borrow.Rule.Slice.PartMut.{putMid}
 use Rattle.std.proofs.shelf.Lists.{getD-past, take-all, drop-take, take-take, length-take-le, length-drop, length-append, append-nil, drop-all, take-at, drop-at}
 use Rattle.std.proofs.shelf.Parts.{take-putMid-below, take-putMid, drop-putMid}
 use Rattle.std.proofs.shelf.Tests.{cases-eq, cases-lt}
-use Rattle.arena.specs.declared.count.Count.{Count}
-use Rattle.arena.specs.declared.count.Count.the-variants.{Lost, Limited, Unlimited}
+use Rattle.terms.specs.declared.count.Count.{Count}
+use Rattle.terms.specs.declared.count.Count.the-variants.{Lost, Limited, Unlimited}
 use Rattle.std.specs.declared.option.Option.{Option}
 use Rattle.std.specs.declared.option.Option.the-variants.{Some, None}
 use Rattle.arena.specs.Arena.{Arena, Place, Sound}
-use Rattle.arena.specs.Count.{Counts, Most, Least}
+use Rattle.terms.specs.Order.{Most, Least}
+use Rattle.arena.specs.Count.{Counts}
 use Rattle.arena.specs.Values.{Spoils, Values}
 use Rattle.arena.specs.Book.{front, input-byte, Answer-bytes, Entry, header, entry-at, book-length, Book}
 use Rattle.arena.proofs.CountLaws.{counts-once}
-use Rattle.arena.proofs.BestLaws.{best-once, best-same}
+use Rattle.terms.proofs.BestLaws.{best-once, best-same}
 use Rattle.book.specs.Ranks.{count-of, counts-of, Ready, rank-by, Highest, Lowest, worth, Filled, Written}
 use Rattle.book.proofs.RankLaws.{count-top, count-under}
 use Rattle.book.proofs.PickLaws.{highest-greatest, most-from, most-to, least-from}

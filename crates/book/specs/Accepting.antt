@@ -3,9 +3,9 @@ use Prim.Native.Nat.{ℕ, _≤_}
 use mathlib.Core.Path.{_≡_}
 use mathlib.Core.List.{List}
 use mathlib.Core.Logic.{_↔_}
-use Rattle.arena.specs.declared.count.Count.{Count}
-use Rattle.arena.specs.declared.refusal.Refusal.{Refusal}
-use Rattle.arena.specs.declared.refusal.Refusal.the-variants.{SizeZero, NotThisBook}
+use Rattle.terms.specs.declared.count.Count.{Count}
+use Rattle.terms.specs.declared.refusal.Refusal.{Refusal}
+use Rattle.terms.specs.declared.refusal.Refusal.the-variants.{SizeZero, NotThisBook}
 use Rattle.arena.specs.Arena.{Arena}
 use Rattle.arena.specs.Control.{Proper}
 use Rattle.arena.specs.Values.{Values}

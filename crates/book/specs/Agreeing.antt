@@ -5,10 +5,10 @@ use mathlib.Core.List.{List}
 use lib.ListN.{length, take, drop}
 use Rattle.std.specs.declared.option.Option.{Option}
 use Rattle.std.specs.declared.option.Option.the-variants.{Some, None}
-use Rattle.arena.specs.declared.count.Count.{Count}
-use Rattle.arena.specs.declared.count.Count.the-variants.{Lost, Limited, Unlimited}
+use Rattle.terms.specs.declared.count.Count.{Count}
+use Rattle.terms.specs.declared.count.Count.the-variants.{Lost, Limited, Unlimited}
 use Rattle.arena.specs.Arena.{Arena, Place}
-use Rattle.arena.specs.Count.{plus, Most, Least}
+use Rattle.terms.specs.Order.{plus, Most, Least}
 use Rattle.arena.specs.Book.{front, header, entry-at, book-length}
 use Rattle.book.specs.Told.{count-told, spoiling-told, answer-told, count-in}
 

@@ -7,11 +7,11 @@ use mathlib.Core.List.{List}
 use mathlib.Core.Bool.{cond}
 use lib.Dec.{leb}
 use lib.ListN.{length, getD, take, drop}
-use Rattle.arena.specs.declared.count.Count.{Count}
-use Rattle.arena.specs.declared.count.Count.the-variants.{Lost, Limited, Unlimited}
+use Rattle.terms.specs.declared.count.Count.{Count}
+use Rattle.terms.specs.declared.count.Count.the-variants.{Lost, Limited, Unlimited}
 use Rattle.arena.specs.Arena.{Arena}
 use Rattle.arena.specs.Held.{Held}
-use Rattle.arena.specs.Best.{Best}
+use Rattle.terms.specs.Best.{Best}
 use Rattle.arena.specs.Count.{Counts}
 use Rattle.arena.specs.Values.{Values}
 use Rattle.arena.specs.Book.{entry-at, book-length, Entry}

@@ -4,9 +4,9 @@ use mathlib.Core.Path.{_≡_}
 use mathlib.Core.List.{List}
 use mathlib.Core.Logic.{_↔_}
 use lib.ListN.{length, take, drop}
-use Rattle.arena.specs.declared.count.Count.{Count}
-use Rattle.arena.specs.declared.refusal.Refusal.{Refusal}
-use Rattle.arena.specs.declared.refusal.Refusal.the-variants.{StoreTooShort, SizeZero, TooManySweeps}
+use Rattle.terms.specs.declared.count.Count.{Count}
+use Rattle.terms.specs.declared.refusal.Refusal.{Refusal}
+use Rattle.terms.specs.declared.refusal.Refusal.the-variants.{StoreTooShort, SizeZero, TooManySweeps}
 use Rattle.arena.specs.Arena.{Arena}
 use Rattle.arena.specs.Held.{Held, In-time}
 use Rattle.arena.specs.Control.{Can-hold, Proper}

@@ -3,7 +3,7 @@ ghost use Rattle.std.specs.Results.{Cases};
 ghost use Rattle.book.specs.Solving.{Solved, Declined};
 use crate::sweep::settle;
 use crate::write::write_book;
-use arena::refusal::Refusal;
+use terms::refusal::Refusal;
 use game::game::Game;
 
 // Solves a game into its book and says how many bytes that takes.

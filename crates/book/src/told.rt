@@ -2,9 +2,9 @@
 ghost use mathlib.Core.Path.{_≡_};
 ghost use Rattle.arena.specs.Book.{entry-at};
 ghost use Rattle.book.specs.Told.{flag-told, count-told, spoiling-told, answer-told};
-use arena::bytes::byte_at;
-use arena::bytes::word_at;
-use arena::count::Count;
+use terms::bytes::byte_at;
+use terms::bytes::word_at;
+use terms::count::Count;
 
 // Where the record of p begins.
 pub fn entry_at(p: u8) -> usize

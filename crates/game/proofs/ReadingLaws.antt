@@ -13,10 +13,10 @@ use Rattle.std.specs.declared.result.Result.the-variants.{Ok, Err}
 use Rattle.std.specs.Results.{Cases, ErrBy, isOk}
 use Rattle.std.proofs.shelf.Lists.{append-nil, append-assoc, getD-set-same, getD-set-other}
 use Rattle.std.proofs.shelf.Tests.{cases-lt, cases-eq, cases-bool, true≢false}
-use Rattle.arena.specs.declared.shape.Shape.{Shape}
-use Rattle.arena.specs.declared.refusal.Refusal.{Refusal}
+use Rattle.terms.specs.declared.shape.Shape.{Shape}
+use Rattle.terms.specs.declared.refusal.Refusal.{Refusal}
 use Rattle.arena.specs.Diagram.{shape-of, head-at, record-at, next-at, input-of, output-of, Record, Record-right, Fielded, Path, Chain, Chains, Distinct, Linked, Unrepeated, Well-formed, First, Index-wrong, Unreached, Repeated, Refused, sought}
-use Rattle.arena.specs.Bytes.{byte, word}
+use Rattle.terms.specs.Bytes.{byte, word}
 use Rattle.arena.proofs.ChainLaws.{in-left, in-right, in-either, distinct-push, path-push, path-records, chain-once, chains-part, unrepeated-none, unrepeated-push}
 use Rattle.arena.proofs.DrawnLaws.{sought-here, sought-past}
 use Rattle.arena.proofs.OutcomeLaws.{one-refusal, well-formed-not-refused}

@@ -5,9 +5,9 @@ use mathlib.Core.List.{List, [], _∷_, _++_}
 use mathlib.Core.Logic.{_⊎_}
 use mathlib.Core.Bool.{Bool, true, false}
 use lib.ListN.{getD}
-use Rattle.arena.specs.declared.shape.Shape.{Shape}
+use Rattle.terms.specs.declared.shape.Shape.{Shape}
 use Rattle.arena.specs.Diagram.{head-at, next-at, input-of, output-of, Record, Record-right, First, Path, Chain, Chains, In, Distinct, Repeats, Unrepeated}
-use Rattle.arena.specs.Bytes.{word}
+use Rattle.terms.specs.Bytes.{word}
 
 -- every field of a record that begins below the place k is right
 abbrev pub Right-below : Shape → List ℕ → ℕ → Type 0

@@ -10,10 +10,10 @@ ghost use Rattle.arena.specs.Diagram.{shape-of, Record, Chain, Distinct, Fielde
 ghost use Rattle.game.specs.Reading.{Marks, Chain-whole, Chain-broken, Chains-whole, Chains-broken, Move-number, Chain-repeats, Chains-fresh, Chains-repeat};
 use crate::fields::head_at;
 use crate::fields::record_at;
-use arena::bytes::byte_at;
-use arena::bytes::word_at;
-use arena::refusal::Refusal;
-use arena::shape::Shape;
+use terms::bytes::byte_at;
+use terms::bytes::word_at;
+use terms::refusal::Refusal;
+use terms::shape::Shape;
 
 // Follows the chain of p and marks its records. The answer is where an index is wrong: it names no record, or one that
 // is marked already.

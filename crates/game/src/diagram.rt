@@ -13,10 +13,10 @@ use crate::fields::head_at;
 use crate::fields::record_at;
 use crate::game::Game;
 use crate::range::is_beyond;
-use arena::bytes::byte_at;
-use arena::bytes::word_at;
-use arena::refusal::Refusal;
-use arena::shape::Shape;
+use terms::bytes::byte_at;
+use terms::bytes::word_at;
+use terms::refusal::Refusal;
+use terms::shape::Shape;
 
 // A diagram that was read.
 #[derive(Drop)]

@@ -4,13 +4,13 @@ ghost use Prim.Native.Nat.{ℕ, _+_, _*_, _<_, _≤_, _^_};
 ghost use Rattle.std.specs.Options.{Cases as BySome};
 ghost use Rattle.std.specs.Results.{Cases};
 ghost use Rattle.arena.specs.Diagram.{shape-of, head-at, record-at, Record, Header-right, Record-right, Fielded, First, Refused};
-ghost use Rattle.arena.specs.Bytes.{byte, word};
+ghost use Rattle.terms.specs.Bytes.{byte, word};
 ghost use Rattle.game.specs.Reading.{Right-below, Wrong-first};
 use crate::range::count_of;
-use arena::bytes::byte_at;
-use arena::bytes::word_at;
-use arena::refusal::Refusal;
-use arena::shape::Shape;
+use terms::bytes::byte_at;
+use terms::bytes::word_at;
+use terms::refusal::Refusal;
+use terms::shape::Shape;
 
 // Where the head of position p stands.
 pub(crate) fn head_at(p: u8) -> usize

@@ -1,14 +1,14 @@
 // The numbered parts of a rule.
 
 // A signal, by its number among the inputs or the outputs.
-#[derive(Clone, Copy, PartialEq, Eq, Debug)]
+#[derive(Clone, Copy)]
 pub enum Signal {
     Input(u8),
     Output(u8),
 }
 
 // A part of a rule. Sides are the numbers of earlier parts; a literal says whether its signal is to be on.
-#[derive(Clone, Copy, PartialEq, Eq, Debug)]
+#[derive(Clone, Copy)]
 pub enum Part {
     True,
     False,

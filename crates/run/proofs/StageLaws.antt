@@ -12,14 +12,14 @@ use Rattle.std.specs.declared.option.Option.{Option}
 use Rattle.std.specs.declared.option.Option.the-variants.{Some, None}
 use Rattle.std.specs.declared.result.Result.{Result}
 use Rattle.std.specs.declared.result.Result.the-variants.{Ok, Err}
-use Rattle.arena.specs.declared.count.Count.{Count}
-use Rattle.arena.specs.declared.count.Count.the-variants.{Lost, Limited, Unlimited}
-use Rattle.arena.specs.declared.call.Call.{Call}
-use Rattle.arena.specs.declared.call.Call.the-variants.{Open, Set, Close, Abandon, AskPosition, AskCount, AskSpoiling}
-use Rattle.arena.specs.declared.call.Reply.{Reply}
-use Rattle.arena.specs.declared.call.Reply.the-variants.{Position, Left, Spoiling}
-use Rattle.arena.specs.declared.refusal.Refusal.{Refusal}
-use Rattle.arena.specs.declared.refusal.Refusal.the-variants.{NotThisBook, OutOfRange, RunLost}
+use Rattle.terms.specs.declared.count.Count.{Count}
+use Rattle.terms.specs.declared.count.Count.the-variants.{Lost, Limited, Unlimited}
+use Rattle.terms.specs.declared.call.Call.{Call}
+use Rattle.terms.specs.declared.call.Call.the-variants.{Open, Set, Close, Abandon, AskPosition, AskCount, AskSpoiling}
+use Rattle.terms.specs.declared.call.Reply.{Reply}
+use Rattle.terms.specs.declared.call.Reply.the-variants.{Position, Left, Spoiling}
+use Rattle.terms.specs.declared.refusal.Refusal.{Refusal}
+use Rattle.terms.specs.declared.refusal.Refusal.the-variants.{NotThisBook, OutOfRange, RunLost}
 use Rattle.arena.specs.Arena.{Arena, Place, Sound}
 use Rattle.arena.specs.Count.{Counts}
 use Rattle.arena.specs.Values.{Spoils, Values}

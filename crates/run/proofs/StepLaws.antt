@@ -7,10 +7,10 @@ use lib.ListN.{length, set, take, drop, length-take}
 use Rattle.std.proofs.shelf.Lists.{drop-more, set-append-right}
 use Rattle.std.specs.declared.result.Result.{Result}
 use Rattle.std.specs.declared.result.Result.the-variants.{Ok, Err}
-use Rattle.arena.specs.declared.call.Call.{Call}
-use Rattle.arena.specs.declared.call.Standing.{Standing}
-use Rattle.arena.specs.declared.call.Step.{Step}
-use Rattle.arena.specs.declared.refusal.Refusal.{Refusal}
+use Rattle.terms.specs.declared.call.Call.{Call}
+use Rattle.terms.specs.declared.call.Standing.{Standing}
+use Rattle.terms.specs.declared.call.Step.{Step}
+use Rattle.terms.specs.declared.refusal.Refusal.{Refusal}
 use Rattle.arena.specs.Arena.{Arena, Sound}
 use Rattle.arena.specs.Values.{Values}
 use Rattle.arena.specs.Book.{Book}

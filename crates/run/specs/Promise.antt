@@ -7,12 +7,12 @@ use mathlib.Core.Logic.{_↔_}
 use lib.ListN.{length, take, drop}
 use Rattle.std.specs.declared.result.Result.{Result}
 use Rattle.std.specs.declared.result.Result.the-variants.{Ok, Err}
-use Rattle.arena.specs.declared.count.Count.{Count}
-use Rattle.arena.specs.declared.call.Call.{Call}
-use Rattle.arena.specs.declared.call.Standing.{Standing}
-use Rattle.arena.specs.declared.call.Step.{Step}
-use Rattle.arena.specs.declared.refusal.Refusal.{Refusal}
-use Rattle.arena.specs.declared.refusal.Refusal.the-variants.{StoreTooShort, SizeZero, NotThisBook}
+use Rattle.terms.specs.declared.count.Count.{Count}
+use Rattle.terms.specs.declared.call.Call.{Call}
+use Rattle.terms.specs.declared.call.Standing.{Standing}
+use Rattle.terms.specs.declared.call.Step.{Step}
+use Rattle.terms.specs.declared.refusal.Refusal.{Refusal}
+use Rattle.terms.specs.declared.refusal.Refusal.the-variants.{StoreTooShort, SizeZero, NotThisBook}
 use Rattle.arena.specs.Arena.{Arena}
 use Rattle.arena.specs.Control.{Proper}
 use Rattle.arena.specs.Values.{Values}

@@ -6,15 +6,15 @@ use lib.Dec.{ltb}
 use Rattle.std.specs.declared.option.Option.{Option}
 use Rattle.std.specs.declared.result.Result.{Result}
 use Rattle.std.specs.declared.result.Result.the-variants.{Ok, Err}
-use Rattle.arena.specs.declared.count.Count.{Count}
-use Rattle.arena.specs.declared.call.Call.{Call}
-use Rattle.arena.specs.declared.call.Call.the-variants.{Open, Set, Close, Abandon, AskPosition, AskCount, AskSpoiling}
-use Rattle.arena.specs.declared.call.Reply.{Reply}
-use Rattle.arena.specs.declared.call.Reply.the-variants.{Output, Changed, Closed, Abandoned, Position, Left, Spoiling, Refused, NotAllowed}
-use Rattle.arena.specs.declared.call.Standing.{Standing}
-use Rattle.arena.specs.declared.call.Step.{Step}
-use Rattle.arena.specs.declared.refusal.Refusal.{Refusal}
-use Rattle.arena.specs.declared.refusal.Refusal.the-variants.{OutOfRange}
+use Rattle.terms.specs.declared.count.Count.{Count}
+use Rattle.terms.specs.declared.call.Call.{Call}
+use Rattle.terms.specs.declared.call.Call.the-variants.{Open, Set, Close, Abandon, AskPosition, AskCount, AskSpoiling}
+use Rattle.terms.specs.declared.call.Reply.{Reply}
+use Rattle.terms.specs.declared.call.Reply.the-variants.{Output, Changed, Closed, Abandoned, Position, Left, Spoiling, Refused, NotAllowed}
+use Rattle.terms.specs.declared.call.Standing.{Standing}
+use Rattle.terms.specs.declared.call.Step.{Step}
+use Rattle.terms.specs.declared.refusal.Refusal.{Refusal}
+use Rattle.terms.specs.declared.refusal.Refusal.the-variants.{OutOfRange}
 use Rattle.arena.specs.Arena.{Arena}
 use Rattle.run.specs.declared.run.Run.{Run}
 use Rattle.run.specs.declared.run.Round.{Round}

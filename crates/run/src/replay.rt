@@ -1,18 +1,18 @@
 // A row of calls, from the making of the run to its end.
 ghost use mathlib.Core.Path.{_≡_};
-ghost use Rattle.arena.specs.declared.call.Reply.the-variants.{Position, Left, Spoiling};
+ghost use Rattle.terms.specs.declared.call.Reply.the-variants.{Position, Left, Spoiling};
 ghost use Rattle.run.specs.Stages.{told, stage-reply, stage-after, stage-position, standing-of, standing-at, step-of};
 ghost use Rattle.run.specs.Promise.{Replayed};
 use crate::run::Declined;
 use crate::run::Round;
 use crate::run::Run;
 use crate::stage::Stage;
-use arena::call::Call;
-use arena::call::Reply;
-use arena::call::Standing;
-use arena::call::Step;
-use arena::count::Count;
-use arena::refusal::Refusal;
+use terms::call::Call;
+use terms::call::Reply;
+use terms::call::Standing;
+use terms::call::Step;
+use terms::count::Count;
+use terms::refusal::Refusal;
 use game::game::Game;
 
 fn told_position(r: Result<Option<u8>, Refusal>) -> Reply

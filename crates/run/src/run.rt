@@ -2,8 +2,8 @@
 ghost use mathlib.Core.Path.{_≡_};
 ghost use Rattle.run.specs.Calls.{readable, position-at, count-at, spoiling-at, open-at, set-at, set-result};
 ghost use Rattle.run.specs.Promise.{Started};
-use arena::count::Count;
-use arena::refusal::Refusal;
+use terms::count::Count;
+use terms::refusal::Refusal;
 use book::accept::accept;
 use book::told::answer_told;
 use book::told::count_told;

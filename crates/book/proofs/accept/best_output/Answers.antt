@@ -3,10 +3,10 @@ use mathlib.Core.Path.{_≡_, subst}
 use native.Mathlib.Omega.{arith}
 use lib.Pow.{pow-pos}
 use Rattle.std.proofs.shelf.Ways.{not-from-decides}
-use Rattle.arena.specs.declared.count.Count.{Count}
-use Rattle.arena.specs.Count.{Most}
-use Rattle.arena.proofs.BestLaws.{best-one, turn-takes, turn-keeps}
-use Rattle.arena.proofs.OrderLaws.{count-order}
+use Rattle.terms.specs.declared.count.Count.{Count}
+use Rattle.terms.specs.Order.{Most}
+use Rattle.terms.proofs.BestLaws.{best-one, turn-takes, turn-keeps}
+use Rattle.terms.proofs.OrderLaws.{count-order}
 use Rattle.book.specs.Told.{count-in}
 use Rattle.book.proofs.accept.best_output.Needs.{then-not-is-at-most, else-not-is-at-most}
 use Rattle.book.proofs.accept.best_output.Needs as need

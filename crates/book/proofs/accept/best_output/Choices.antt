@@ -1,5 +1,5 @@
 use mathlib.Core.Path.{_≡_}
-use Rattle.arena.specs.Count.{Most}
+use Rattle.terms.specs.Order.{Most}
 use Rattle.book.specs.Told.{count-in}
 use Rattle.book.proofs.accept.best_output.Given as given
 

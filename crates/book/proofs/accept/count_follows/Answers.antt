@@ -1,9 +1,9 @@
 use Prim.Native.Nat.{ℕ, _^_}
 use mathlib.Core.Path.{_≡_, sym, ap, subst, _∙_}
 use Rattle.std.proofs.shelf.Ways.{decides-like}
-use Rattle.arena.specs.declared.count.Count.{Count}
-use Rattle.arena.specs.declared.count.Count.the-variants.{Unlimited}
-use Rattle.arena.specs.Count.{At-most}
+use Rattle.terms.specs.declared.count.Count.{Count}
+use Rattle.terms.specs.declared.count.Count.the-variants.{Unlimited}
+use Rattle.terms.specs.Order.{At-most}
 use Rattle.book.specs.Told.{answer-told, count-in}
 use Rattle.book.proofs.AcceptLaws.{follows-unlimited}
 use Rattle.book.proofs.accept.count_follows.Needs as need

@@ -3,10 +3,10 @@ use mathlib.Core.Path.{_≡_, ap, subst, _∙_}
 use native.Mathlib.Omega.{arith}
 use lib.Pow.{pow-pos}
 use Rattle.std.proofs.shelf.Ways.{not-from-decides}
-use Rattle.arena.specs.declared.count.Count.{Count}
-use Rattle.arena.specs.Count.{Least}
-use Rattle.arena.proofs.BestLaws.{reversed, best-one, turn-takes, turn-keeps}
-use Rattle.arena.proofs.OrderLaws.{count-order}
+use Rattle.terms.specs.declared.count.Count.{Count}
+use Rattle.terms.specs.Order.{Least}
+use Rattle.terms.proofs.BestLaws.{reversed, best-one, turn-takes, turn-keeps}
+use Rattle.terms.proofs.OrderLaws.{count-order}
 use Rattle.book.specs.Told.{answer-told, count-in}
 use Rattle.book.proofs.accept.worst_input.Needs.{then-not-is-at-most, else-not-is-at-most}
 use Rattle.book.proofs.accept.worst_input.Needs as need

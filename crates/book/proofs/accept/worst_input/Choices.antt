@@ -1,5 +1,5 @@
 use mathlib.Core.Path.{_≡_}
-use Rattle.arena.specs.Count.{Least}
+use Rattle.terms.specs.Order.{Least}
 use Rattle.book.specs.Told.{answer-told, count-in}
 use Rattle.book.proofs.accept.worst_input.Given as given
 

@@ -3,7 +3,7 @@ use mathlib.Core.Path.{_≡_, subst}
 use native.Mathlib.Omega.{arith}
 use lib.Pow.{pow-pos}
 use Rattle.book.specs.Ranks.{rank-by, Highest}
-use Rattle.arena.proofs.BestLaws.{number-order, best-one, turn-takes, turn-keeps}
+use Rattle.terms.proofs.BestLaws.{number-order, best-one, turn-takes, turn-keeps}
 use Rattle.book.proofs.pick.answer.Needs.{then-r-high, else-r-high}
 use Rattle.book.proofs.pick.answer.Needs as need
 

@@ -3,7 +3,7 @@ use mathlib.Core.Path.{_≡_, subst}
 use native.Mathlib.Omega.{arith}
 use lib.Pow.{pow-pos}
 use Rattle.book.specs.Ranks.{worth, Lowest}
-use Rattle.arena.proofs.BestLaws.{reversed, number-order, best-one, turn-takes, turn-keeps}
+use Rattle.terms.proofs.BestLaws.{reversed, number-order, best-one, turn-takes, turn-keeps}
 use Rattle.book.proofs.pick.spoiler.Needs.{then-r-low, else-r-low}
 use Rattle.book.proofs.pick.spoiler.Needs as need
 

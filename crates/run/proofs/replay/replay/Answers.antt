@@ -7,7 +7,7 @@ use lib.Seq.{take-all}
 use Rattle.std.proofs.shelf.Lists.{take-more}
 use Rattle.std.specs.declared.result.Result.{Result}
 use Rattle.std.specs.declared.result.Result.the-variants.{Ok, Err}
-use Rattle.arena.specs.declared.call.Call.the-variants.{Open}
+use Rattle.terms.specs.declared.call.Call.the-variants.{Open}
 use Rattle.arena.specs.Tally.{between, steps, tally}
 use Rattle.run.proofs.StageLaws.{stage-of}
 use Rattle.run.proofs.StepLaws.{step-at, stage-more, step-more, steps-stored, kept}

@@ -4,8 +4,8 @@ use mathlib.Core.Bool.{Bool, true, false, cond}
 use native.Mathlib.Omega.{arith}
 use Rattle.std.specs.declared.result.Result.{Result}
 use Rattle.std.specs.declared.result.Result.the-variants.{Ok, Err}
-use Rattle.arena.specs.declared.refusal.Refusal.{Refusal}
-use Rattle.arena.specs.declared.refusal.Refusal.the-variants.{OutOfRange}
+use Rattle.terms.specs.declared.refusal.Refusal.{Refusal}
+use Rattle.terms.specs.declared.refusal.Refusal.the-variants.{OutOfRange}
 use Rattle.run.proofs.replay.take_during.Needs as need
 
 -- a refused setting is out of range

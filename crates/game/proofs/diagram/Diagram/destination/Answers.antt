@@ -6,7 +6,7 @@ use native.Mathlib.Omega.{arith}
 use lib.Dec.{leb}
 use Rattle.std.proofs.shelf.Ways.{tells}
 use Rattle.arena.specs.Diagram.{head-at, sought}
-use Rattle.arena.specs.Bytes.{byte}
+use Rattle.terms.specs.Bytes.{byte}
 use Rattle.arena.proofs.DrawnLaws.{sought-none}
 use Rattle.game.proofs.ReadingLaws.{seek-here, seek-past}
 use Rattle.game.proofs.diagram.Diagram.destination.Needs as need

@@ -1,0 +1,2 @@
+pub mod BestLaws
+pub mod OrderLaws

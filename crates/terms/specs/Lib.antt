@@ -1,0 +1,4 @@
+pub mod Refusals
+pub mod Bytes
+pub mod Best
+pub mod Order
