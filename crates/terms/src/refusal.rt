@@ -3,7 +3,7 @@ ghost use mathlib.Core.Path.{_≡_};
 ghost use Rattle.terms.specs.Refusals.{number, layer, place};
 
 // A refusal, with its place where that is not always 0.
-#[derive(Clone, Copy)]
+#[derive(Clone, Copy, Debug)]
 pub enum Refusal {
     TextTooLong,
     StrangeByte(usize),

@@ -1,0 +1,11 @@
+// The commands of the program, over the files and streams of a runtime.
+mod args;
+pub mod command;
+mod fault;
+mod moves;
+mod outline;
+mod play;
+mod source;
+mod table;
+mod talk;
+mod words;
