@@ -2,15 +2,23 @@
 
 #[cfg(test)]
 mod tests {
+    use book::accept::accept;
     use book::solve::solve;
+    use book::told::count_told;
     use game::diagram::Diagram;
     use game::diagram::DiagramGame;
     use game::pair::Pair;
     use game::pair::PairGame;
+    use run::replay::replay;
     use std::alloc::AllocError;
     use std::alloc::Global;
     use std::test::Fail;
     use std::test::check_eq;
+    use terms::call::Call;
+    use terms::call::Reply;
+    use terms::call::Standing;
+    use terms::call::Step;
+    use terms::count::Count;
     use terms::refusal::Refusal;
     use terms::refusal::RefusalDebug;
 
@@ -121,8 +129,8 @@ mod tests {
         check_eq(refusal_of(solve(&game, &mut store)), (13, 0))?;
         check_eq(&store[0..55], &[0xAA; 55][0..55])?;
         let game = Diagram::read(&SINGLE)?;
-        check_eq(refusal_of(solve(&game, &mut store[0..31])), (13, 0))?;
-        check_eq(solve(&game, &mut store[0..32])?, 32)
+        check_eq(refusal_of(solve(&game, &mut [0; 31])), (13, 0))?;
+        check_eq(solve(&game, &mut [0; 32])?, 32)
     }
 
     #[test]
@@ -173,5 +181,116 @@ mod tests {
             check_eq(record, &[2, 0, 0, 0, 0, 255 - p as u8, 0, 0])?;
         }
         Ok(())
+    }
+
+    // The refusal of the worked diagram's book where its byte at a place is another.
+    fn accepted_with(at: usize, byte: u8) -> (u8, usize) {
+        let mut book = BOOK;
+        if at < 56 {
+            book[at] = byte;
+        }
+        match Diagram::read(&WORKED) {
+            Ok(game) => refusal_of(accept(&game, &book)),
+            Err(_) => (0, 1),
+        }
+    }
+
+    #[test]
+    fn no_other_byte_is_accepted() -> Result<(), Fail> {
+        check_eq(accepted_with(56, 0), (0, 0))?;
+        for at in 0..56 {
+            check_eq(accepted_with(at, BOOK[at] ^ 1), (18, 0))?;
+            check_eq(accepted_with(at, BOOK[at] ^ 0xAA), (18, 0))?;
+        }
+        Ok(())
+    }
+
+    #[test]
+    fn no_other_length_is_accepted(rt: LibcRuntime) -> Result<(), Fail> {
+        let game = Diagram::read(&WORKED)?;
+        check_eq(refusal_of(accept(&game, &BOOK[0..55])), (18, 0))?;
+        let mut book = BOOK.to_vec(rt.alloc())?;
+        book.push(0)?;
+        check_eq(refusal_of(accept(&game, book.as_slice())), (18, 0))
+    }
+
+    // Old bytes in the alignment in front of a short count: the book is refused, and the count is read as 1.
+    #[test]
+    fn stale_alignment_is_no_count() -> Result<(), Fail> {
+        let mut book = BOOK;
+        book[10] = 0x0F;
+        book[11] = 0xA0;
+        check_eq(refusal_of(accept(&Diagram::read(&WORKED)?, &book)), (18, 0))?;
+        check_eq(rounds_of(count_told(&book, 1)), 1)
+    }
+
+    // A count as a number, with 65535 for unlimited and 65534 for lost.
+    fn rounds_of(count: Count) -> u16 {
+        match count {
+            Count::Lost => 65534,
+            Count::Limited(n) => n,
+            Count::Unlimited => 65535,
+        }
+    }
+
+    // What a call was told: the number of its refusal, or 100 and an output, or 0.
+    fn told(step: &Step) -> u8 {
+        match step.reply {
+            Reply::Refused(refusal) => refusal.number(),
+            Reply::Output(y) => if y < 16 { 100 + y } else { 0 },
+            Reply::NotAllowed => 99,
+            _ => 0,
+        }
+    }
+
+    const ROW: [Call; 12] = [
+        Call::Open(2),
+        Call::Close,
+        Call::Open(0),
+        Call::Set(2),
+        Call::Set(1),
+        Call::Abandon,
+        Call::Open(1),
+        Call::Open(0),
+        Call::Close,
+        Call::Open(1),
+        Call::Close,
+        Call::Open(0),
+    ];
+
+    // What each of these calls is told, and the count after it.
+    const TOLD: [(u8, u16); 12] = [
+        (19, 1),
+        (99, 1),
+        (100, 1),
+        (19, 1),
+        (0, 1),
+        (0, 1),
+        (101, 1),
+        (99, 1),
+        (0, 0),
+        (100, 0),
+        (0, 65534),
+        (20, 65534),
+    ];
+
+    // A row of the worked diagram: refusals change nothing, an abandoned round leaves no trace, and the spoiling input
+    // takes the run from count 1 to the loss, where nothing more can be opened.
+    #[test]
+    fn row_is_told_and_lost() -> Result<(), Fail> {
+        let blank = Step {
+            reply: Reply::NotAllowed,
+            standing: Standing {
+                position: None,
+                count: Count::Lost,
+            },
+        };
+        let mut steps = [blank; 12];
+        let end = replay(&Diagram::read(&WORKED)?, &BOOK, &ROW, &mut steps)?;
+        for (step, expected) in steps.iter().zip(TOLD.iter()) {
+            check_eq((told(step), rounds_of(step.standing.count)), *expected)?;
+        }
+        check_eq(rounds_of(end.count), 65534)?;
+        check_eq(refusal_of(replay(&Diagram::read(&WORKED)?, &BOOK, &ROW, &mut [blank; 11])), (13, 0))
     }
 }
