@@ -40,7 +40,7 @@ pub enum Command<'a> {
 }
 
 impl<'a> Command<'a> {
-    pub fn sources(&self) -> Sources<'a> {
+    pub(crate) fn sources(&self) -> Sources<'a> {
         match self {
             Command::Solve(sources, _) => *sources,
             Command::Show(sources) => *sources,
@@ -84,7 +84,7 @@ pub impl fmt::Display for Misuse<'_> as MisuseDisplay {
 }
 
 // The command that the words give, the program's own name first.
-pub fn parse<'a>(words: &'a [String]) -> Result<Command<'a>, Misuse<'a>> {
+pub(crate) fn parse<'a>(words: &'a [String]) -> Result<Command<'a>, Misuse<'a>> {
     let [_, verb, rest @ ..] = words else {
         return Err(Misuse::NoCommand);
     };

@@ -12,7 +12,7 @@ pub struct Outline {
 }
 
 impl Outline {
-    pub fn of<G: Game>(game: &G) -> Outline
+    pub(crate) fn of<G: Game>(game: &G) -> Outline
         ensures signals { λ r. ⌜ (r .inputs ≡ meaning (now (game .entry)) .inputs) × (r .outputs ≡ meaning (now (game .entry)) .outputs) ⌝ }
         ensures positions { λ r. ⌜ (r .size ≡ meaning (now (game .entry)) .size) × (r .start ≡ meaning (now (game .entry)) .start) ⌝ }
     {

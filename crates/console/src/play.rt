@@ -50,7 +50,7 @@ fn line_of(heap: Global, reply: Reply) -> Result<String, AllocError> {
 }
 
 // Plays a run of the game by the book, from the start to the end of the input.
-pub fn play<'a, G: Game>(rt: &LibcRuntime, game: &G, book: &[u8]) -> Result<(), Fault<'a>> {
+pub(crate) fn play<'a, G: Game>(rt: &LibcRuntime, game: &G, book: &[u8]) -> Result<(), Fault<'a>> {
     let mut log = Log::new(rt.alloc());
     let mut stage = match Run::start(game, book) {
         Ok(run) => Stage::Between(run),

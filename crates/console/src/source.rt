@@ -13,19 +13,19 @@ pub struct Loaded<'a> {
 }
 
 impl<'a> Loaded<'a> {
-    pub fn read(rt: &LibcRuntime, source: Source<'a>) -> Result<Loaded<'a>, Fault<'a>> {
+    pub(crate) fn read(rt: &LibcRuntime, source: Source<'a>) -> Result<Loaded<'a>, Fault<'a>> {
         let Source::Diagram(file) = source;
         let bytes = read_file(rt, file)?;
         Ok(Loaded { file, bytes })
     }
 
     // The game that the bytes draw.
-    pub fn game(&self) -> Result<Diagram<'_>, Refusal> {
+    pub(crate) fn game(&self) -> Result<Diagram<'_>, Refusal> {
         Diagram::read(self.bytes.as_slice())
     }
 
     // The same, where a refusal has to say which of two files it is about.
-    pub fn named_game(&self) -> Result<Diagram<'_>, Fault<'a>> {
+    pub(crate) fn named_game(&self) -> Result<Diagram<'_>, Fault<'a>> {
         match self.game() {
             Ok(game) => Ok(game),
             Err(refusal) => Err(Fault::Refused(refusal, Some(self.file))),
@@ -34,7 +34,7 @@ impl<'a> Loaded<'a> {
 }
 
 // The bytes of a file.
-pub fn read_file<'a>(rt: &LibcRuntime, file: &'a str) -> Result<Vec<u8>, Fault<'a>> {
+pub(crate) fn read_file<'a>(rt: &LibcRuntime, file: &'a str) -> Result<Vec<u8>, Fault<'a>> {
     match fs::read(rt, file) {
         Ok(bytes) => Ok(bytes),
         Err(error) => Err(Fault::Unreadable(file, error)),

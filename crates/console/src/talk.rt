@@ -10,7 +10,7 @@ use terms::count::Count;
 pub const CALLS: &str = "open X, set Y, close, abandon, position, count or spoiling";
 
 // The call that a line gives, if it gives one.
-pub fn call_of(line: &str) -> Option<Call> {
+pub(crate) fn call_of(line: &str) -> Option<Call> {
     let mut words = line.split_whitespace();
     let verb = words.next()?;
     let object = words.next();

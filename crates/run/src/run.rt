@@ -1,6 +1,6 @@
 // A run between rounds, and an open round, as values that must be spent.
 ghost use mathlib.Core.Path.{_≡_};
-ghost use Rattle.run.specs.Calls.{readable, position-at, count-at, spoiling-at, open-at, set-at, set-result};
+ghost use Rattle.run.specs.Calls.{readable, position-at, count-at, spoiling-at, open-at, consult-at, set-at, set-result};
 ghost use Rattle.run.specs.Promise.{Started};
 use terms::count::Count;
 use terms::refusal::Refusal;
@@ -129,6 +129,16 @@ impl Run {
             input,
             output: answer_told(book, position, input),
         })
+    }
+
+    // The book's answer to an input, with no round played.
+    pub fn consult<G: Game>(self, game: &G, book: &[u8], input: u8) -> Result<(Run, u8), Declined>
+        ensures { λ r. ⌜ r ≡ consult-at (meaning (now (game .entry))) (now (book .entry)) (self .position) input ⌝ }
+    {
+        let round = self.open(game, book, input)?;
+        let output = round.output();
+        let run = round.abandon(game, book);
+        Ok((run, output))
     }
 
     // The position, none where the run is lost.

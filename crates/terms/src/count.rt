@@ -16,37 +16,49 @@ impl Count {
     pub fn is_at_most(self, other: Count) -> bool
         ensures { λ r. ⌜ Decides r (At-most self other) ⌝ }
     {
-        match self {
-            Count::Lost => true,
-            Count::Limited(k) => match other {
-                Count::Lost => false,
-                Count::Limited(j) => k <= j,
-                Count::Unlimited => true,
-            },
-            Count::Unlimited => match other {
-                Count::Lost => false,
-                Count::Limited(_) => false,
-                Count::Unlimited => true,
-            },
-        }
+        at_most(self, other)
     }
 
     // Whether this is one round more than the other.
     pub fn is_one_more(self, other: Count) -> bool
         ensures { λ r. ⌜ Decides r (self ≡ plus other 1) ⌝ }
     {
-        match self {
+        one_more(self, other)
+    }
+}
+
+fn at_most(c: Count, d: Count) -> bool
+    ensures { λ r. ⌜ Decides r (At-most c d) ⌝ }
+{
+    match c {
+        Count::Lost => true,
+        Count::Limited(k) => match d {
             Count::Lost => false,
-            Count::Limited(k) => match other {
-                Count::Lost => k == 0,
-                Count::Limited(j) => k as u32 == j as u32 + 1,
-                Count::Unlimited => false,
-            },
-            Count::Unlimited => match other {
-                Count::Lost => false,
-                Count::Limited(_) => false,
-                Count::Unlimited => true,
-            },
-        }
+            Count::Limited(j) => k <= j,
+            Count::Unlimited => true,
+        },
+        Count::Unlimited => match d {
+            Count::Lost => false,
+            Count::Limited(_) => false,
+            Count::Unlimited => true,
+        },
+    }
+}
+
+fn one_more(c: Count, d: Count) -> bool
+    ensures { λ r. ⌜ Decides r (c ≡ plus d 1) ⌝ }
+{
+    match c {
+        Count::Lost => false,
+        Count::Limited(k) => match d {
+            Count::Lost => k == 0,
+            Count::Limited(j) => k as u32 == j as u32 + 1,
+            Count::Unlimited => false,
+        },
+        Count::Unlimited => match d {
+            Count::Lost => false,
+            Count::Limited(_) => false,
+            Count::Unlimited => true,
+        },
     }
 }
