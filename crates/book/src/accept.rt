@@ -169,6 +169,13 @@ fn book_agrees<G: Game>(g: &G, book: &[u8]) -> bool
 pub fn accept<G: Game>(g: &G, book: &[u8]) -> Result<(), Refusal>
     ensures { λ r. ⌜ Cases r (λ _. Accepted (meaning (now (g .entry))) (now (book .entry))) (Unaccepted (meaning (now (g .entry))) (now (book .entry))) ⌝ }
 {
+    judge(g, book)
+}
+
+// The same, step by step.
+fn judge<G: Game>(g: &G, book: &[u8]) -> Result<(), Refusal>
+    ensures { λ r. ⌜ Cases r (λ _. Accepted (meaning (now (g .entry))) (now (book .entry))) (Unaccepted (meaning (now (g .entry))) (now (book .entry))) ⌝ }
+{
     if g.size() == 0 {
         return Err(Refusal::SizeZero);
     }

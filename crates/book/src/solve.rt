@@ -10,6 +10,13 @@ use game::game::Game;
 pub fn solve<G: Game>(g: &G, book: &mut [u8]) -> Result<usize, Refusal>
     ensures { λ r. ⌜ Cases r (Solved (meaning (now (g .entry))) (now (book .entry)) (now (book .exit))) (Declined (meaning (now (g .entry))) (now (book .entry)) (now (book .exit))) ⌝ }
 {
+    solve_into(g, book)
+}
+
+// The same, step by step.
+fn solve_into<G: Game>(g: &G, book: &mut [u8]) -> Result<usize, Refusal>
+    ensures { λ r. ⌜ Cases r (Solved (meaning (now (g .entry))) (now (book .entry)) (now (book .exit))) (Declined (meaning (now (g .entry))) (now (book .entry)) (now (book .exit))) ⌝ }
+{
     let n = g.size() as usize;
     if n == 0 {
         return Err(Refusal::SizeZero);

@@ -25,6 +25,18 @@ pub struct Diagram<'a> {
     shape: Shape,
 }
 
+// The header of a well-formed image, or the first thing that is wrong with it.
+fn check(bytes: &[u8]) -> Result<Shape, Refusal>
+    ensures outcome { λ r. ⌜ Cases r (λ h. Well-formed (now (bytes .entry)) × Draws (now (bytes .entry)) (drawn h (now (bytes .entry)))) (λ e. Refused (now (bytes .entry)) e) ⌝ }
+    ensures served { λ r. ⌜ (Well-formed (now (bytes .entry)) → isOk r ≡ true) ⌝ }
+    ensures refused { λ r. ⌜ ((e : Refusal) → Refused (now (bytes .entry)) e → Cases r (λ _. ⊥) (λ f. f ≡ e)) ⌝ }
+{
+    let shape = check_fields(bytes)?;
+    check_chains(shape, bytes)?;
+    check_moves(shape, bytes)?;
+    Ok(shape)
+}
+
 impl<'a> Diagram<'a> {
     // The game that the bytes draw, or the first thing that is wrong with them.
     pub fn read(bytes: &'a [u8]) -> Result<Diagram<'a>, Refusal>
@@ -32,9 +44,7 @@ impl<'a> Diagram<'a> {
         ensures served { λ r. ⌜ (Well-formed (now (bytes .entry)) → isOk r ≡ true) ⌝ }
         ensures refused { λ r. ⌜ ((e : Refusal) → Refused (now (bytes .entry)) e → Cases r (λ _. ⊥) (λ f. f ≡ e)) ⌝ }
     {
-        let shape = check_fields(bytes)?;
-        check_chains(shape, bytes)?;
-        check_moves(shape, bytes)?;
+        let shape = check(bytes)?;
         Ok(Diagram { bytes, shape })
     }
 

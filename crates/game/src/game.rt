@@ -2,6 +2,7 @@
 ghost use mathlib.Core.Path.{_≡_};
 ghost use Prim.Native.Nat.{ℕ, _^_, _<_, _≤_};
 ghost use Rattle.arena.specs.Arena.{Arena, Sound};
+use crate::range::count_of;
 
 // A game, by the five things that it means. A question out of range is answered 0.
 pub trait Game {
@@ -35,12 +36,20 @@ pub trait Game {
 pub fn input_count<G: Game>(g: &G) -> u8
     ensures { λ r. ⌜ r ≡ 2 ^ meaning (now (g .entry)) .inputs ⌝ ∗ ⌜ r ≤ 16 ⌝ }
 {
-    1 << g.inputs()
+    turns(g.inputs())
 }
 
 // How many outputs a round can have.
 pub fn output_count<G: Game>(g: &G) -> u8
     ensures { λ r. ⌜ r ≡ 2 ^ meaning (now (g .entry)) .outputs ⌝ ∗ ⌜ r ≤ 16 ⌝ }
 {
-    1 << g.outputs()
+    turns(g.outputs())
+}
+
+// How many inputs or outputs so many signals make.
+fn turns(signals: u8) -> u8
+    requires { ⌜ signals ≤ 4 ⌝ }
+    ensures { λ r. ⌜ r ≡ 2 ^ signals ⌝ ∗ ⌜ r ≤ 16 ⌝ }
+{
+    count_of(signals)
 }

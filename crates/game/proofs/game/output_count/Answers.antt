@@ -1,13 +1,5 @@
-use Prim.Native.Nat.{_^_, _≤_}
-use mathlib.Core.Path.{_∙_, ap}
 use native.Mathlib.Omega.{arith}
-use lib.Pow.{pow-mono}
-use Rattle.std.proofs.shelf.Bits.{one-shl}
 use Rattle.game.proofs.game.output_count.Needs as need
 
-pub returns : need.returns
-returns g c =
-    let few : c .outputs .result ≤ 4 = omega (arith, g .G·Game .sound (c .args .g .now) .walks .few-out) in
-    let e = one-shl (c .outputs .result) 8 (omega arith) in
-    let p : 2 ^ c .outputs .result ≤ 2 ^ 4 = pow-mono few in
-    (e ∙ ap (λ n. 2 ^ n) (c .outputs .ensures), omega arith)
+pub turns-requires : need.turns-requires
+turns-requires g c κs = omega (arith, g .G·Game .sound (c .args .g .now) .walks .few-out)

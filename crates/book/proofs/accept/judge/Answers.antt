@@ -5,7 +5,7 @@ use Rattle.arena.proofs.ControlLaws.{values-proper}
 use Rattle.arena.proofs.BookLaws.{one-book}
 use Rattle.book.specs.Accepting.{none, other}
 use Rattle.book.proofs.ToldLaws.{agrees-right}
-use Rattle.book.proofs.accept.accept.Needs as need
+use Rattle.book.proofs.accept.judge.Needs as need
 
 pub returns-then-size-eq0 : need.returns-then-size-eq0
 returns-then-size-eq0 g c = none refl (omega arith)

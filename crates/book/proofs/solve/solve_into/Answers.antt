@@ -6,7 +6,7 @@ use Rattle.arena.proofs.ControlLaws.{held-right, values-proper}
 use Rattle.arena.proofs.ValueLaws.{values}
 use Rattle.arena.proofs.BookLaws.{one-book}
 use Rattle.book.specs.Solving.{none, sweeps, short}
-use Rattle.book.proofs.solve.solve.Needs as need
+use Rattle.book.proofs.solve.solve_into.Needs as need
 
 pub returns-then-n-eq0 : need.returns-then-n-eq0
 returns-then-n-eq0 g c = record { cause = none refl (omega arith); same = refl }
