@@ -38,7 +38,7 @@ use Rattle.run.specs.Stages.{stage-position, told, opening-reply, opening-stag
 -- the stage that a tally stands for
 abbrev pub stage-of : Arena → Tally → Stage
 stage-of a (between rs) = Between (record { position = leads a (a .start) rs })
-stage-of a (during rs x y) = Opened (record { position = leads a (a .start) rs; input = x; output = y })
+stage-of a (during rs x y) = Opened (record { origin = leads a (a .start) rs; input = x; output = y })
 
 -- a count that is not lost has the status 1 or 2
 flagged : (c : Count) → (c ≡ Lost → ⊥) → (eqb (status c) 1 || eqb (status c) 2) ≡ true
@@ -57,7 +57,7 @@ opening-stages a true c x y z t u w e f g = e
 opening-stages a false true x y z t u w e f g = f
 opening-stages a false false x y z t u w e f g = g
 
-set-stages : (a : Arena) (b : Bool) (rs : List Played) (x y z : ℕ) → _≡_ {A = Stage} (Opened (cond b (record { position = leads a (a .start) rs; input = x; output = y }) (record { position = leads a (a .start) rs; input = x; output = z }))) (stage-of a (cond b (during rs x y) (during rs x z)))
+set-stages : (a : Arena) (b : Bool) (rs : List Played) (x y z : ℕ) → _≡_ {A = Stage} (Opened (cond b (record { origin = leads a (a .start) rs; input = x; output = y }) (record { origin = leads a (a .start) rs; input = x; output = z }))) (stage-of a (cond b (during rs x y) (during rs x z)))
 set-stages a true rs x y z = refl
 set-stages a false rs x y z = refl
 
@@ -94,11 +94,11 @@ module _ (a : Arena) (s : Sound a) (v : Values a) (bs : List ℕ) (book : Book a
   spoiling-told-at p l = asked-told p None _ (v .spoiling p) l (λ e. sym (ap (v .spoiling) e ∙ lost-spoiling a s v bs book)) (told-spoiling-is a s v bs book p)
 
   -- an opening is served as the tally has it
-  open-told : (p x : ℕ) → p ≤ a .size → open-at a bs p x ≡ cond (eqb p 0) (declined p RunLost) (cond (ltb x (2 ^ a .inputs)) (Ok (record { position = p; input = x; output = v .answer p x })) (declined p OutOfRange))
+  open-told : (p x : ℕ) → p ≤ a .size → open-at a bs p x ≡ cond (eqb p 0) (declined p RunLost) (cond (ltb x (2 ^ a .inputs)) (Ok (record { origin = p; input = x; output = v .answer p x })) (declined p OutOfRange))
   open-told p x l = go (eqb p 0) refl
     where
       gave : ℕ → Result Round Declined
-      gave o = Ok (record { position = p; input = x; output = o })
+      gave o = Ok (record { origin = p; input = x; output = o })
 
       inner : Place a p → (c : Bool) → ltb x (2 ^ a .inputs) ≡ c → cond c (gave (answer-told bs p x)) (declined p OutOfRange) ≡ cond c (gave (v .answer p x)) (declined p OutOfRange)
       inner i true e = ap gave (told-answer-is a s v bs book p x i (ltb-true x _ e))

@@ -46,12 +46,12 @@ abbrev pub open-at : Arena → List ℕ → ℕ → ℕ → Result Round Decline
 open-at a bs p x =
     cond (eqb p 0) (declined p RunLost)
     (cond (readable bs p)
-    (cond (ltb x (2 ^ a .inputs)) (Ok (record { position = p; input = x; output = answer-told bs p x })) (declined p OutOfRange))
+    (cond (ltb x (2 ^ a .inputs)) (Ok (record { origin = p; input = x; output = answer-told bs p x })) (declined p OutOfRange))
     (declined p NotThisBook))
 
 -- a consultation is an opening that is abandoned: it gives the run back, and the answer
 abbrev pub consulted : Result Round Declined → Result (Run × ℕ) Declined
-consulted (Ok r) = Ok (record { position = r .position }, r .output)
+consulted (Ok r) = Ok (record { position = r .origin }, r .output)
 consulted (Err e) = Err e
 
 abbrev pub consult-at : Arena → List ℕ → ℕ → ℕ → Result (Run × ℕ) Declined
@@ -59,7 +59,7 @@ consult-at a bs p x = consulted (open-at a bs p x)
 
 -- a setting replaces the output, unless there is no such output
 abbrev pub set-at : Arena → Round → ℕ → Round
-set-at a r y = cond (ltb y (2 ^ a .outputs)) (record { position = r .position; input = r .input; output = y }) r
+set-at a r y = cond (ltb y (2 ^ a .outputs)) (record { origin = r .origin; input = r .input; output = y }) r
 
 abbrev pub set-result : Arena → ℕ → Result Unit Refusal
 set-result a y = cond (ltb y (2 ^ a .outputs)) (Ok tt) (Err OutOfRange)

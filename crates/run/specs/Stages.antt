@@ -25,7 +25,7 @@ use Rattle.run.specs.Calls.{position-at, count-at, spoiling-at, open-at, set-a
 
 abbrev pub stage-position : Stage → ℕ
 stage-position (Between r) = r .position
-stage-position (Opened r) = r .position
+stage-position (Opened r) = r .origin
 
 -- a call's result as a reply
 abbrev pub told : {X : Type 0} → (X → Reply) → Result X Refusal → Reply
@@ -61,9 +61,9 @@ stage-after a bs (Open x) (Opened r) = Opened r
 stage-after a bs (Set y) (Between r) = Between r
 stage-after a bs (Set y) (Opened r) = Opened (set-at a r y)
 stage-after a bs Close (Between r) = Between r
-stage-after a bs Close (Opened r) = Between (record { position = a .move (r .position) (r .input) (r .output) })
+stage-after a bs Close (Opened r) = Between (record { position = a .move (r .origin) (r .input) (r .output) })
 stage-after a bs Abandon (Between r) = Between r
-stage-after a bs Abandon (Opened r) = Between (record { position = r .position })
+stage-after a bs Abandon (Opened r) = Between (record { position = r .origin })
 stage-after a bs AskPosition s = s
 stage-after a bs AskCount s = s
 stage-after a bs AskSpoiling s = s

@@ -19,9 +19,9 @@ pub struct Run {
     position: u8,
 }
 
-// An open round. It has to be closed or abandoned.
+// An open round, by the position where it was opened, its input and its output so far. It has to be closed or abandoned.
 pub struct Round {
-    position: u8,
+    origin: u8,
     input: u8,
     output: u8,
 }
@@ -32,7 +32,7 @@ impl Drop for Round {
         requires { ⌜ ⊥ ⌝ }
     {
         let Round {
-            position: _,
+            origin: _,
             input: _,
             output: _,
         } = self;
@@ -125,7 +125,7 @@ impl Run {
             });
         }
         Ok(Round {
-            position,
+            origin: position,
             input,
             output: answer_told(book, position, input),
         })
@@ -168,7 +168,8 @@ impl Round {
     pub fn output(&self) -> u8
         ensures { λ r. ⌜ r ≡ now (self .entry) .output ⌝ }
     {
-        self.output
+        let Round { output, .. } = self;
+        *output
     }
 
     // No second round may be opened while one is open: no caller can show what this asks.
@@ -192,48 +193,48 @@ impl Round {
 
     // Ends the round by its move.
     pub fn close<G: Game>(self, game: &G, _book: &[u8]) -> Run
-        ensures { λ r. ⌜ r .position ≡ meaning (now (game .entry)) .move (self .position) (self .input) (self .output) ⌝ }
+        ensures { λ r. ⌜ r .position ≡ meaning (now (game .entry)) .move (self .origin) (self .input) (self .output) ⌝ }
     {
         let Round {
-            position,
+            origin,
             input,
             output,
         } = self;
         Run {
-            position: game.step(position, input, output),
+            position: game.step(origin, input, output),
         }
     }
 
     // Ends the round as if it had never been opened.
     pub fn abandon<G: Game>(self, _game: &G, _book: &[u8]) -> Run
-        ensures { λ r. ⌜ r .position ≡ self .position ⌝ }
+        ensures { λ r. ⌜ r .position ≡ self .origin ⌝ }
     {
         let Round {
-            position,
+            origin,
             input: _,
             output: _,
         } = self;
-        Run { position }
+        Run { position: origin }
     }
 
     // The position where the round was opened.
     pub fn position<G: Game>(&self, _game: &G, book: &[u8]) -> Result<Option<u8>, Refusal>
-        ensures { λ r. ⌜ r ≡ position-at (now (book .entry)) (now (self .entry) .position) ⌝ }
+        ensures { λ r. ⌜ r ≡ position-at (now (book .entry)) (now (self .entry) .origin) ⌝ }
     {
-        position_at(book, self.position)
+        position_at(book, self.origin)
     }
 
     // The count where the round was opened.
     pub fn count_left<G: Game>(&self, _game: &G, book: &[u8]) -> Result<Count, Refusal>
-        ensures { λ r. ⌜ r ≡ count-at (now (book .entry)) (now (self .entry) .position) ⌝ }
+        ensures { λ r. ⌜ r ≡ count-at (now (book .entry)) (now (self .entry) .origin) ⌝ }
     {
-        count_at(book, self.position)
+        count_at(book, self.origin)
     }
 
     // The spoiling input where the round was opened.
     pub fn spoiling_input<G: Game>(&self, _game: &G, book: &[u8]) -> Result<Option<u8>, Refusal>
-        ensures { λ r. ⌜ r ≡ spoiling-at (now (book .entry)) (now (self .entry) .position) ⌝ }
+        ensures { λ r. ⌜ r ≡ spoiling-at (now (book .entry)) (now (self .entry) .origin) ⌝ }
     {
-        spoiling_at(book, self.position)
+        spoiling_at(book, self.origin)
     }
 }
