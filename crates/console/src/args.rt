@@ -14,6 +14,7 @@ pub const USAGE: &str = "usage:
   playbook show SOURCE [SOURCE]                  print the game's moves
   playbook check SOURCE [SOURCE] --book FILE     accept the book, or refuse it
   playbook run SOURCE [SOURCE] --book FILE       play a run: calls on the standard input, an answer line for each
+  playbook parts --rule SIGNALS RULE             print the signals and the parts of the rule in the two files
 a SOURCE is
   --diagram FILE                                 the game that the file draws
 Two sources are paired: signal k of the one is signal k of the other.";
@@ -50,6 +51,13 @@ impl<'a> Command<'a> {
     }
 }
 
+// What is to be done: a command over games, or the parts of a rule over signals, each in a file.
+#[derive(Clone, Copy)]
+pub enum Task<'a> {
+    Over(Command<'a>),
+    Parts(&'a str, &'a str),
+}
+
 // Why the words are no command.
 #[derive(Clone, Copy)]
 pub enum Misuse<'a> {
@@ -62,6 +70,7 @@ pub enum Misuse<'a> {
     SecondBook(&'a str),
     NoBookHere(&'a str),
     NoBook,
+    NoRule,
 }
 
 pub impl fmt::Display for Misuse<'_> as MisuseDisplay {
@@ -79,16 +88,36 @@ pub impl fmt::Display for Misuse<'_> as MisuseDisplay {
                 "show writes no book, and '{file}' is given for one"
             ),
             Misuse::NoBook => write!(f, "no book is given"),
+            Misuse::NoRule => write!(f, "parts needs --rule and two files, and nothing else"),
         }
     }
 }
 
-// The command that the words give, the program's own name first.
-pub(crate) fn parse<'a>(words: &'a [String]) -> Result<Command<'a>, Misuse<'a>> {
+// What the words ask for, the program's own name first.
+pub(crate) fn parse<'a>(words: &'a [String]) -> Result<Task<'a>, Misuse<'a>> {
     let [_, verb, rest @ ..] = words else {
         return Err(Misuse::NoCommand);
     };
     match verb.as_str() {
+        "parts" => parts(rest),
+        other => Ok(Task::Over(over_games(other, rest)?)),
+    }
+}
+
+// The files of the signals and the rule.
+fn parts<'a>(words: &'a [String]) -> Result<Task<'a>, Misuse<'a>> {
+    let [flag, signals, rule] = words else {
+        return Err(Misuse::NoRule);
+    };
+    match flag.as_str() {
+        "--rule" => Ok(Task::Parts(signals.as_str(), rule.as_str())),
+        _ => Err(Misuse::NoRule),
+    }
+}
+
+// The command over games that the words give.
+fn over_games<'a>(verb: &'a str, rest: &'a [String]) -> Result<Command<'a>, Misuse<'a>> {
+    match verb {
         "solve" => Options::read(rest)?.solve(),
         "show" => Options::read(rest)?.show(),
         "check" => Options::read(rest)?.check(),

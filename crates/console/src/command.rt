@@ -1,6 +1,7 @@
 // The program's commands.
 use crate::args::Command;
 use crate::args::Sources;
+use crate::args::Task;
 use crate::args::parse;
 use crate::fault::Fault;
 use crate::fault::FaultDisplay;
@@ -12,6 +13,7 @@ use crate::moves::Turn;
 use crate::moves::TurnDisplay;
 use crate::outline::Outline;
 use crate::outline::OutlineDisplay;
+use crate::parts::show_parts;
 use crate::play::play;
 use crate::source::Loaded;
 use crate::source::read_file;
@@ -61,7 +63,13 @@ fn report(rt: &LibcRuntime, result: Result<(), Fault>) -> Result<(), Failed> {
 }
 
 fn run<'a>(rt: &LibcRuntime, words: &'a [String]) -> Result<(), Fault<'a>> {
-    let command = parse(words)?;
+    match parse(words)? {
+        Task::Over(command) => run_over(rt, command),
+        Task::Parts(signals, rule) => show_parts(rt, signals, rule),
+    }
+}
+
+fn run_over<'a>(rt: &LibcRuntime, command: Command<'a>) -> Result<(), Fault<'a>> {
     let Sources { first, second } = command.sources();
     let first = Loaded::read(rt, first)?;
     let Some(second) = second else {

@@ -2,6 +2,8 @@
 use crate::args::Misuse;
 use crate::args::MisuseDisplay;
 use crate::args::USAGE;
+use crate::parts::Mark;
+use crate::parts::MarkDisplay;
 use crate::words::Line;
 use crate::words::LineDisplay;
 use std::alloc::AllocError;
@@ -13,6 +15,8 @@ use terms::refusal::Refusal;
 pub enum Fault<'a> {
     // The file is named where there are two that can be wrong.
     Refused(Refusal, Option<&'a str>),
+    // The refusal of a text, with its file and its line.
+    Marked(Refusal, &'a str, Mark),
     Misused(Misuse<'a>),
     Unreadable(&'a str, io::Error),
     Unwritten(&'a str, io::Error),
@@ -33,6 +37,10 @@ pub impl fmt::Display for Fault<'_> as FaultDisplay {
             Fault::Refused(refusal, Some(file)) => {
                 let line = Line(*refusal);
                 write!(f, "{line} (in {file})")
+            }
+            Fault::Marked(refusal, file, mark) => {
+                let line = Line(*refusal);
+                write!(f, "{line} (in {file})\n{mark}")
             }
             Fault::Misused(misuse) => write!(f, "{misuse}\n{USAGE}"),
             Fault::Unreadable(file, error) => write!(f, "cannot read {file}: {error}"),

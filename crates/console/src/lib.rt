@@ -2,8 +2,10 @@
 mod args;
 pub mod command;
 mod fault;
+mod listing;
 mod moves;
 mod outline;
+mod parts;
 mod play;
 mod source;
 mod table;

@@ -7,6 +7,8 @@ use Prim.Native.Nat.{ℕ, zero, suc, _+_}
 use lib.Dec.{leb, eqb}
 use lib.ListN.{length, take, drop}
 use Rattle.std.specs.shelf.Lists.{leading}
+use Rattle.std.specs.declared.option.Option.{Option}
+use Rattle.std.specs.declared.option.Option.the-variants.{Some, None}
 use Rattle.words.specs.declared.word.Word.{Word}
 use Rattle.words.specs.declared.word.Word.the-variants.{Next, Always, Release, Until, Finally, And, Or, Not, Open, Close, In, Out, True, False, Name, Strange, End}
 use Rattle.words.specs.declared.word.Token.{Token}
@@ -116,3 +118,31 @@ Comes bs from t = Tells (t .word)
     Tells (Name r) = Is (name′ (r .now))
     Tells (Strange b) = Is (strange′ b)
     Tells End = (words-from bs from ≡ []) × (t .at ≡ length bs)
+
+-- what a word of the reader says; the end says nothing
+abbrev pub says : Word → Option Said
+says Next = Some X′
+says Always = Some G′
+says Release = Some R′
+says Until = Some U′
+says Finally = Some F′
+says And = Some and′
+says Or = Some or′
+says Not = Some not′
+says Open = Some open′
+says Close = Some close′
+says In = Some in′
+says Out = Some out′
+says True = Some true′
+says False = Some false′
+says (Name r) = Some (name′ (r .now))
+says (Strange b) = Some (strange′ b)
+says End = None
+
+-- the token for the end of a text of n bytes
+abbrev pub end-token : ℕ → Token
+end-token n = record { word = End; at = n; next = n }
+
+-- the computed words of a text are its words, and its only ones
+abbrev pub Words-stand : Type 0
+Words-stand = (bs : List ℕ) → Words 0 bs (words-from bs 0) × ((ws : List Placed) → Words 0 bs ws → ws ≡ words-from bs 0)

@@ -1,0 +1,15 @@
+pub mod WordLaws
+pub mod TreeLaws
+pub mod PassLaws
+pub mod ReadLaws
+pub mod AgreeLaws
+pub mod WalkLaws
+pub mod AllowedLaws
+pub mod FaultLaws
+pub mod ScanLaws
+pub mod EntryLaws
+pub mod DescentLaws
+pub mod AnswerLaws
+pub mod TextLaws
+pub mod SizeLaws
+pub mod BothLaws

@@ -1,0 +1,10 @@
+pub mod Grammar
+pub mod Allowed
+pub mod Faults
+pub mod Scan
+pub mod Names
+pub mod Entries
+pub mod Steps
+pub mod Texts
+pub mod Claims
+pub mod Both
