@@ -294,3 +294,6 @@ mod tests {
         check_eq(refusal_of(replay(&Diagram::read(&WORKED)?, &BOOK, &ROW, &mut [blank; 11])), (13, 0))
     }
 }
+
+#[cfg(test)]
+mod texts;
