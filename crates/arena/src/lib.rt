@@ -1,1 +1,2 @@
 // What games mean and how long they can be held: definitions and laws only.
+#![tactic(auto)]

@@ -1,4 +1,6 @@
 // Solving a game into its play book, accepting a book, and what a book tells.
+#![tactic(auto)]
+
 pub mod accept;
 mod pick;
 pub mod solve;

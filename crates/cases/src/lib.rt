@@ -1,4 +1,5 @@
 // Worked examples of diagrams, books and refusals, run as tests.
+#![tactic(auto)]
 
 #[cfg(test)]
 mod tests {

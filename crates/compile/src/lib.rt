@@ -1,4 +1,6 @@
 // Compiling a rule: from two texts to a game whose positions are lists of duty sets.
+#![tactic(auto)]
+
 pub mod compile;
 pub mod compiled;
 mod explore;

@@ -1,4 +1,6 @@
 // The commands of the program, over the files and streams of a runtime.
+#![tactic(auto)]
+
 mod args;
 pub mod command;
 mod fault;

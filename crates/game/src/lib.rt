@@ -1,4 +1,6 @@
 // Games: the trait, and the games that are drawn or made of others.
+#![tactic(auto)]
+
 mod chains;
 pub mod diagram;
 mod fields;

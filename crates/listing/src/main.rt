@@ -1,4 +1,6 @@
 // The program once more, for the gate: the parts of a rule.
+#![tactic(auto)]
+
 use console::command::{Failed, main_of};
 
 fn main(rt: HostRuntime) -> Result<(), Failed> {

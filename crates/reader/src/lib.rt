@@ -1,4 +1,6 @@
 // The reader of rules: from a text to the numbered parts of the one rule that it says.
+#![tactic(auto)]
+
 ghost use Rattle.reader.specs.Claims.{ReaderStands};
 
 mod descent;

@@ -1,4 +1,6 @@
 // Entries in a store that the caller lends, each numbered by its place.
+#![tactic(auto)]
+
 ghost use Rattle.std.specs.Prelude.{◌≡◌, ℕ, Bool, true, false, ◌↔◌, length, Some};
 ghost use Rattle.register.specs.Places.{found, First, used_after, Entered};
 

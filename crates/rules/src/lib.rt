@@ -1,4 +1,6 @@
 // What rules say, the lists of duty sets that tell when one is lost, and the games that they make.
+#![tactic(auto)]
+
 ghost use Rattle.rules.specs.Claims.{RulesStand};
 
 pub mod part;

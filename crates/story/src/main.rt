@@ -1,4 +1,6 @@
 // The program again, on a whole run of the example bench.
+#![tactic(auto)]
+
 use console::command::{Failed, main_of};
 
 fn main(rt: HostRuntime) -> Result<(), Failed> {

@@ -1,4 +1,6 @@
 // The words of a text, and the signals text.
+#![tactic(auto)]
+
 pub mod name;
 pub mod reader;
 pub mod signals;
