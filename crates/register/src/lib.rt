@@ -20,8 +20,8 @@ pub trait Same {
 
 // The number of the first entry that is the same as `e`.
 pub fn find<E: Same>(entries: &[E], e: &E) -> Option<usize>
-    ensures value { result ≡ found same e.now entries.now }
-    ensures first { (k : ℕ) → (result ≡ Some k) ↔ First same e.now (length entries.now) entries.now k }
+    ensures value { result ≡ found E.same e.now entries.now }
+    ensures first { (k : ℕ) → (result ≡ Some k) ↔ First E.same e.now (length entries.now) entries.now k }
 {
     for (i, x) in entries.iter().enumerate() {
         if e.same_as(x) {
@@ -33,7 +33,7 @@ pub fn find<E: Same>(entries: &[E], e: &E) -> Option<usize>
 
 // Gives `e` its number, and writes it behind the `used` entries where none of them is the same and there is room.
 fn find_or_add<E: Same + Copy>(store: &mut [E], used: usize, e: E) -> Option<usize>
-    ensures { Entered same e used store.old result store.new }
+    ensures { Entered E.same e used store.old result store.new }
 {
     if used > store.len() {
         return None;
@@ -59,7 +59,7 @@ impl<'s, E: Same + Copy> Register<'s, E> {
     // The number of `e`: that of the first entry in use that is the same, else the next, where it is then written.
     // There is none where the store is full.
     pub fn enter(&mut self, e: E) -> Option<usize>
-        ensures entered { Entered same e self.old.used self.old.store.now result self.new.store.now }
+        ensures entered { Entered E.same e self.old.used self.old.store.now result self.new.store.now }
         ensures used { self.new.used ≡ used_after self.old.used result }
         ensures lender { self.new.store.ghost_name ≡ self.old.store.ghost_name }
     {

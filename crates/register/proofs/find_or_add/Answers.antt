@@ -14,10 +14,10 @@ returns-in-Some g c =
 
 pub returns-then-used-store-2 : goal.returns-then-used-store-2
 returns-then-used-store-2 g c =
-    let past = none_place g.E.Same.same c.args.e c.args.used c.args.store.now c.if-used-store.false (sym c.find.ensures.value ∙ c.in-default.is) in
+    let past = none_place g.E.Same.same c.args.e c.args.used c.args.store.now c.if-used-store.false (sym c.find.ensures.value ∙ c.in_default.is) in
     full_entered g.E.Same.same g.met.E.Same.symmetric g.met.E.Same.transitive g.met.E.Same.reflexive c.args.e c.args.used c.args.store.now c.if-used-store-2.true past
 
 pub returns : goal.returns
 returns g c =
-    let past = none_place g.E.Same.same c.args.e c.args.used c.args.store.now c.if-used-store.false (sym c.find.ensures.value ∙ c.in-default.is) in
+    let past = none_place g.E.Same.same c.args.e c.args.used c.args.store.now c.if-used-store.false (sym c.find.ensures.value ∙ c.in_default.is) in
     new_entered g.E.Same.same g.met.E.Same.symmetric g.met.E.Same.transitive g.met.E.Same.reflexive c.args.e c.args.used c.args.store.now (omega arith) past
