@@ -34,14 +34,14 @@ pub trait Game {
 
 // How many inputs a round can have.
 pub fn input_count<G: Game>(g: &G) -> u8
-    ensures { (result ≡ 2 ^ (meaning g.now).inputs) × (result ≤ 16) }
+    ensures { (result ≡ 2 ^ (G.meaning g.now).inputs) × (result ≤ 16) }
 {
     turns(g.inputs())
 }
 
 // How many outputs a round can have.
 pub fn output_count<G: Game>(g: &G) -> u8
-    ensures { (result ≡ 2 ^ (meaning g.now).outputs) × (result ≤ 16) }
+    ensures { (result ≡ 2 ^ (G.meaning g.now).outputs) × (result ≤ 16) }
 {
     turns(g.outputs())
 }

@@ -79,7 +79,7 @@ fn joint_of(m: u8, n: u8, p: u8, q: u8) -> u8
 
 // The move of one of the two games, which reads the low bits.
 fn low_step<G: Game>(g: &G, p: u8, x: u8, y: u8) -> u8
-    ensures { result ≡ (meaning g.now).move p (x % 2 ^ (meaning g.now).inputs) (y % 2 ^ (meaning g.now).outputs) }
+    ensures { result ≡ (G.meaning g.now).move p (x % 2 ^ (G.meaning g.now).inputs) (y % 2 ^ (G.meaning g.now).outputs) }
 {
     g.step(p, low(x, g.inputs()), low(y, g.outputs()))
 }

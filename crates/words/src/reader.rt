@@ -55,13 +55,13 @@ fn run_end(text: &[u8], at: usize) -> usize
 fn spelled_word(run: &[u8]) -> Word<'_>
     ensures { says result ≡ Some (spelled run.now) }
 {
-    if run == b"in" {
+    if run == b"in".as_slice() {
         Word::In
-    } else if run == b"out" {
+    } else if run == b"out".as_slice() {
         Word::Out
-    } else if run == b"true" {
+    } else if run == b"true".as_slice() {
         Word::True
-    } else if run == b"false" {
+    } else if run == b"false".as_slice() {
         Word::False
     } else {
         Word::Name(run)

@@ -11,8 +11,8 @@ pub loop-p-preserved : goal.loop-p-preserved
 loop-p-preserved c =
     let i = c.loop-p.invariant in
     let e : c.loop-p.p ≡ c.loop-p.p + 1 - 1 = omega arith in
-    subst (λ p. ChainsWhole c.args.shape c.args.bytes.now p c.chain-fault.new.marks) e
-    (chains_more _ _ c.loop-p.p c.loop-p.marks _ (omega arith) i (c.in-default.ensures i.records i.apart i.seen))
+    subst (λ p. ChainsWhole c.args.shape c.args.bytes.now p c.chain_fault.new.marks) e
+    (chains_more _ _ c.loop-p.p c.loop-p.marks _ (omega arith) i (c.in_default.ensures i.records i.apart i.seen))
 
 pub returns-in-Some : goal.returns-in-Some
 returns-in-Some c =

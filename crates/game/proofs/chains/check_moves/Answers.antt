@@ -4,8 +4,8 @@ use Rattle.arena.specs.Diagram.{Refused}
 use Rattle.game.proofs.ReadingLaws.{repeat_record, repeat_refused}
 use Rattle.game.proofs.chains.check_moves.Goals as goal
 
-pub record-at-requires : goal.record-at-requires
-record-at-requires c = (repeat_record c.args.shape c.args.bytes.now c.in-Some.r c.in-Some.ensures).0
+pub record_at-requires : goal.record_at-requires
+record_at-requires c = (repeat_record c.args.shape c.args.bytes.now c.in-Some.r c.in-Some.ensures).0
 
 pub returns-in-Some : goal.returns-in-Some
 returns-in-Some c =

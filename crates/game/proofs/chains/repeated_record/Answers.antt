@@ -4,8 +4,8 @@ use Rattle.game.specs.Reading.{ChainsFresh}
 use Rattle.game.proofs.ReadingLaws.{linked_chain, fresh_more, fresh_repeat}
 use Rattle.game.proofs.chains.repeated_record.Goals as goal
 
-pub repeat-in-requires : goal.repeat-in-requires
-repeat-in-requires c = (
+pub repeat_in-requires : goal.repeat_in-requires
+repeat_in-requires c = (
   c.requires.0,
   (c.requires.1.0, (omega arith, linked_chain c.args.shape c.args.bytes.now c.requires.0 c.requires.1.0 c.loop-p.p (omega arith) (omega arith) c.requires.1.1)),
 )
@@ -16,7 +16,7 @@ returns-in-Some c = fresh_repeat c.args.shape c.args.bytes.now c.loop-p.p c.in-S
 pub loop-p-preserved : goal.loop-p-preserved
 loop-p-preserved c =
     let e : c.loop-p.p ≡ c.loop-p.p + 1 - 1 = omega arith in
-    subst (ChainsFresh c.args.shape c.args.bytes.now) e (fresh_more c.args.shape c.args.bytes.now c.loop-p.p c.loop-p.invariant c.in-default.ensures)
+    subst (ChainsFresh c.args.shape c.args.bytes.now) e (fresh_more c.args.shape c.args.bytes.now c.loop-p.p c.loop-p.invariant c.in_default.ensures)
 
 pub returns : goal.returns
 returns c =

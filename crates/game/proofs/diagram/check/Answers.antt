@@ -9,20 +9,20 @@ use Rattle.game.proofs.diagram.check.Goals as goal
 pub returns : goal.returns
 returns c =
     let bs = c.args.bytes.now in
-    let f = c.in-ok-shape.ensures in
-    let w = fresh_well_formed c.in-ok-shape.shape bs f.0 f.1 c.in-ok-check-chains.ensures c.in-ok-check-moves.ensures in
-    let small : (shape_of bs).size ≤ 255 = omega (arith, c.type-inv.bytes 2) in
+    let f = c.in_ok-shape.ensures in
+    let w = fresh_well_formed c.in_ok-shape.shape bs f.0 f.1 c.in_ok-check_chains.ensures c.in_ok-check_moves.ensures in
+    let small : (shape_of bs).size ≤ 255 = omega (arith, c.type_inv.bytes 2) in
     record {
       outcome = (w, subst (λ h. Draws bs (drawn h bs)) (sym f.1) (drawn_draws bs w small));
       served = λ _. refl;
       refused = λ e v. well_formed_not_refused bs e w v;
     }
 
-pub returns-in-err-shape : goal.returns-in-err-shape
-returns-in-err-shape c = passed c.args.bytes.now _ _ _ c.from-residual.ensures.1 c.in-err-shape.ensures
+pub returns-in_err-shape : goal.returns-in_err-shape
+returns-in_err-shape c = passed c.args.bytes.now _ _ _ c.from_residual.ensures.1 c.in_err-shape.ensures
 
-pub returns-in-err-check-chains : goal.returns-in-err-check-chains
-returns-in-err-check-chains c = passed c.args.bytes.now _ _ _ c.from-residual-in-err-check-chains.ensures.1 c.in-err-check-chains.ensures
+pub returns-in_err-check_chains : goal.returns-in_err-check_chains
+returns-in_err-check_chains c = passed c.args.bytes.now _ _ _ c.from_residual-in_err-check_chains.ensures.1 c.in_err-check_chains.ensures
 
-pub returns-in-err-check-moves : goal.returns-in-err-check-moves
-returns-in-err-check-moves c = passed c.args.bytes.now _ _ _ c.from-residual-in-err-check-moves.ensures.1 c.in-err-check-moves.ensures
+pub returns-in_err-check_moves : goal.returns-in_err-check_moves
+returns-in_err-check_moves c = passed c.args.bytes.now _ _ _ c.from_residual-in_err-check_moves.ensures.1 c.in_err-check_moves.ensures

@@ -12,20 +12,20 @@ returns-in-Some c = Refused.field c.in-Some.k refl (FieldWrong.header c.if-bytes
 
 pub returns-then-bytes-shape : goal.returns-then-bytes-shape
 returns-then-bytes-shape c =
-    let headed : Headed c.args.bytes.now = record { whole = c.if-bytes-lt8.false; right = c.in-default.ensures } in
-    Refused.field _ refl (FieldWrong.misfit headed (λ e. c.if-bytes-shape.true (e ∙ ap full_length (sym c.shape-of-shape.ensures))) refl)
+    let headed : Headed c.args.bytes.now = record { whole = c.if-bytes-lt8.false; right = c.in_default.ensures } in
+    Refused.field _ refl (FieldWrong.misfit headed (λ e. c.if-bytes-shape.true (e ∙ ap full_length (sym c.shape_of-shape.ensures))) refl)
 
-pub records-fault-requires : goal.records-fault-requires
-records-fault-requires c =
-    let right = c.in-default.ensures in
-    let same = c.shape-of-shape.ensures in (
+pub records_fault-requires : goal.records_fault-requires
+records_fault-requires c =
+    let right = c.in_default.ensures in
+    let same = c.shape_of-shape.ensures in (
       omega (arith, (right 0).inputs refl, ap (λ h. h.inputs) same),
       (omega (arith, (right 1).outputs refl, ap (λ h. h.outputs) same), omega (arith, (right 4).records refl, ap (λ h. h.records) same)),
     )
 
-pub returns-in-Some-records-fault : goal.returns-in-Some-records-fault
-returns-in-Some-records-fault c =
-    let headed : Headed c.args.bytes.now = record { whole = c.if-bytes-lt8.false; right = c.in-default.ensures } in
-    let same = c.shape-of-shape.ensures in
-    Refused.field c.in-Some-records-fault.k refl
-    (FieldWrong.field (record { headed = headed; long = c.if-bytes-shape.false ∙ ap full_length same }) (subst (λ h. WrongFirst h c.args.bytes.now c.in-Some-records-fault.k) same c.in-Some-records-fault.ensures))
+pub returns-in-Some-records_fault : goal.returns-in-Some-records_fault
+returns-in-Some-records_fault c =
+    let headed : Headed c.args.bytes.now = record { whole = c.if-bytes-lt8.false; right = c.in_default.ensures } in
+    let same = c.shape_of-shape.ensures in
+    Refused.field c.in-Some-records_fault.k refl
+    (FieldWrong.field (record { headed = headed; long = c.if-bytes-shape.false ∙ ap full_length same }) (subst (λ h. WrongFirst h c.args.bytes.now c.in-Some-records_fault.k) same c.in-Some-records_fault.ensures))

@@ -8,11 +8,11 @@ pub returns-then-p-eq0 : goal.returns-then-p-eq0
 unfolding joint
 returns-then-p-eq0 c = grind (arith, nat_tests)
 
-pub overflow-mul-result : goal.overflow-mul-result
-overflow-mul-result c = omega (arith, joint_high c.args.m c.args.n c.args.p c.args.q (omega arith) (omega arith) (omega arith))
+pub overflow_mul-result : goal.overflow_mul-result
+overflow_mul-result c = omega (arith, joint_high c.args.m c.args.n c.args.p c.args.q (omega arith) (omega arith) (omega arith))
 
-pub overflow-add-result : goal.overflow-add-result
-overflow-add-result c = omega (arith, joint_high c.args.m c.args.n c.args.p c.args.q (omega arith) (omega arith) (omega arith))
+pub overflow_add-result : goal.overflow_add-result
+overflow_add-result c = omega (arith, joint_high c.args.m c.args.n c.args.p c.args.q (omega arith) (omega arith) (omega arith))
 
 pub returns : goal.returns
 unfolding joint
