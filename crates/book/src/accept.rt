@@ -15,8 +15,8 @@ use terms::refusal::Refusal;
 
 // The count where a move leads.
 fn move_count<G: Game>(g: &G, book: &[u8], p: u8, x: u8, y: u8) -> Count
-    requires { book_length (meaning g.now).size ≤ length book.now }
-    ensures { result ≡ count_in book.now ((meaning g.now).move p x y) }
+    requires { book_length (G.meaning g.now).size ≤ length book.now }
+    ensures { result ≡ count_in book.now ((G.meaning g.now).move p x y) }
 {
     let q = g.step(p, x, y);
     if q == 0 {
@@ -27,8 +27,8 @@ fn move_count<G: Game>(g: &G, book: &[u8], p: u8, x: u8, y: u8) -> Count
 
 // The output whose move counts most, the lowest on ties.
 fn best_output<G: Game>(g: &G, book: &[u8], p: u8, x: u8) -> u8
-    requires { book_length (meaning g.now).size ≤ length book.now }
-    ensures { Most (2 ^ (meaning g.now).outputs) (λ y. count_in book.now ((meaning g.now).move p x y)) result }
+    requires { book_length (G.meaning g.now).size ≤ length book.now }
+    ensures { Most (2 ^ (G.meaning g.now).outputs) (λ y. count_in book.now ((G.meaning g.now).move p x y)) result }
 {
     let mut best = 0;
     let mut high = move_count(g, book, p, x, 0);
@@ -44,8 +44,8 @@ fn best_output<G: Game>(g: &G, book: &[u8], p: u8, x: u8) -> u8
 
 // What the answer to x should be: the best output, or 0 where there is no such input.
 fn expected_answer<G: Game>(g: &G, book: &[u8], p: u8, x: u8) -> u8
-    requires { book_length (meaning g.now).size ≤ length book.now }
-    ensures { Expected (meaning g.now) book.now p x result }
+    requires { book_length (G.meaning g.now).size ≤ length book.now }
+    ensures { Expected (G.meaning g.now) book.now p x result }
 {
     if x >= input_count(g) {
         return 0;
@@ -55,8 +55,8 @@ fn expected_answer<G: Game>(g: &G, book: &[u8], p: u8, x: u8) -> u8
 
 // Whether each answer in the record of p is the best, and 0 where there is no such input.
 fn answers_agree<G: Game>(g: &G, book: &[u8], p: u8) -> bool
-    requires { (Place (meaning g.now) p) × (book_length (meaning g.now).size ≤ length book.now) }
-    ensures { Decides result (AnswersAgree (meaning g.now) book.now p) }
+    requires { (Place (G.meaning g.now) p) × (book_length (G.meaning g.now).size ≤ length book.now) }
+    ensures { Decides result (AnswersAgree (G.meaning g.now) book.now p) }
 {
     for x in 0..16 {
         if answer_told(book, p, x) != expected_answer(g, book, p, x) {
@@ -68,8 +68,8 @@ fn answers_agree<G: Game>(g: &G, book: &[u8], p: u8) -> bool
 
 // The input whose answer leads to the least count, the lowest on ties.
 fn worst_input<G: Game>(g: &G, book: &[u8], p: u8) -> u8
-    requires { (Place (meaning g.now) p) × (book_length (meaning g.now).size ≤ length book.now) }
-    ensures { Least (2 ^ (meaning g.now).inputs) (λ x. count_in book.now ((meaning g.now).move p x (answer_told book.now p x))) result }
+    requires { (Place (G.meaning g.now) p) × (book_length (G.meaning g.now).size ≤ length book.now) }
+    ensures { Least (2 ^ (G.meaning g.now).inputs) (λ x. count_in book.now ((G.meaning g.now).move p x (answer_told book.now p x))) result }
 {
     let mut worst = 0;
     let mut low = move_count(g, book, p, 0, answer_told(book, p, 0));
@@ -85,8 +85,8 @@ fn worst_input<G: Game>(g: &G, book: &[u8], p: u8) -> u8
 
 // Whether the count and the spoiling input of p follow from where its answers lead.
 fn count_follows<G: Game>(g: &G, book: &[u8], p: u8) -> bool
-    requires { (Place (meaning g.now) p) × (book_length (meaning g.now).size ≤ length book.now) }
-    ensures { Decides result (Follows (count_told book.now p) (2 ^ (meaning g.now).inputs) (λ x. count_in book.now ((meaning g.now).move p x (answer_told book.now p x))) (spoiling_told book.now p)) }
+    requires { (Place (G.meaning g.now) p) × (book_length (G.meaning g.now).size ≤ length book.now) }
+    ensures { Decides result (Follows (count_told book.now p) (2 ^ (G.meaning g.now).inputs) (λ x. count_in book.now ((G.meaning g.now).move p x (answer_told book.now p x))) (spoiling_told book.now p)) }
 {
     let x = worst_input(g, book, p);
     let low = move_count(g, book, p, x, answer_told(book, p, x));
@@ -120,16 +120,16 @@ fn front_agrees(book: &[u8], p: u8) -> bool
 
 // Whether the record of p agrees with the records to which its moves lead.
 fn record_agrees<G: Game>(g: &G, book: &[u8], p: u8) -> bool
-    requires { (Place (meaning g.now) p) × (book_length (meaning g.now).size ≤ length book.now) }
-    ensures { Decides result (AgreesAt (meaning g.now) book.now p) }
+    requires { (Place (G.meaning g.now) p) × (book_length (G.meaning g.now).size ≤ length book.now) }
+    ensures { Decides result (AgreesAt (G.meaning g.now) book.now p) }
 {
     front_agrees(book, p) && answers_agree(g, book, p) && count_follows(g, book, p)
 }
 
 // Whether each position's record agrees.
 fn records_agree<G: Game>(g: &G, book: &[u8]) -> bool
-    requires { book_length (meaning g.now).size ≤ length book.now }
-    ensures { Decides result ((p : ℕ) → Place (meaning g.now) p → AgreesAt (meaning g.now) book.now p) }
+    requires { book_length (G.meaning g.now).size ≤ length book.now }
+    ensures { Decides result ((p : ℕ) → Place (G.meaning g.now) p → AgreesAt (G.meaning g.now) book.now p) }
 {
     for p in 1..g.size() as usize + 1 {
         if !record_agrees(g, book, p as u8) {
@@ -142,7 +142,7 @@ fn records_agree<G: Game>(g: &G, book: &[u8]) -> bool
 // Whether the first eight bytes are the game's.
 fn header_agrees<G: Game>(g: &G, book: &[u8]) -> bool
     requires { 8 ≤ length book.now }
-    ensures { Decides result (take 8 book.now ≡ header (meaning g.now)) }
+    ensures { Decides result (take 8 book.now ≡ header (G.meaning g.now)) }
 {
     let expected = [1, g.inputs(), g.outputs(), g.size(), g.start(), 0, 0, 0];
     book[0..8] == expected[..]
@@ -150,22 +150,22 @@ fn header_agrees<G: Game>(g: &G, book: &[u8]) -> bool
 
 // Whether the whole book agrees with the moves.
 fn book_agrees<G: Game>(g: &G, book: &[u8]) -> bool
-    requires { 1 ≤ (meaning g.now).size }
-    ensures { Decides result (Agrees (meaning g.now) book.now) }
+    requires { 1 ≤ (G.meaning g.now).size }
+    ensures { Decides result (Agrees (G.meaning g.now) book.now) }
 {
     book.len() == 8 + 24 * g.size() as usize && header_agrees(g, book) && records_agree(g, book)
 }
 
 // Accepts a book that is, byte by byte, the game's book.
 pub fn accept<G: Game>(g: &G, book: &[u8]) -> Result<(), Refusal>
-    ensures { MatchResult result (λ _. Accepted (meaning g.now) book.now) (Unaccepted (meaning g.now) book.now) }
+    ensures { MatchResult result (λ _. Accepted (G.meaning g.now) book.now) (Unaccepted (G.meaning g.now) book.now) }
 {
     judge(g, book)
 }
 
 // The same, step by step.
 fn judge<G: Game>(g: &G, book: &[u8]) -> Result<(), Refusal>
-    ensures { MatchResult result (λ _. Accepted (meaning g.now) book.now) (Unaccepted (meaning g.now) book.now) }
+    ensures { MatchResult result (λ _. Accepted (G.meaning g.now) book.now) (Unaccepted (G.meaning g.now) book.now) }
 {
     if g.size() == 0 {
         return Err(Refusal::SizeZero);

@@ -6,7 +6,7 @@ use game::game::{Game, input_count, output_count};
 // The rank of a move.
 fn rank_of<G: Game>(g: &G, ranks: &[u16], p: u8, x: u8, y: u8) -> u16
     requires { length ranks.now ≡ 256 }
-    ensures { result ≡ rank_by (meaning g.now) ranks.now p x y }
+    ensures { result ≡ rank_by (G.meaning g.now) ranks.now p x y }
 {
     ranks[g.step(p, x, y) as usize]
 }
@@ -14,7 +14,7 @@ fn rank_of<G: Game>(g: &G, ranks: &[u16], p: u8, x: u8, y: u8) -> u16
 // The output whose move has the highest rank, the lowest on ties.
 pub(crate) fn answer<G: Game>(g: &G, ranks: &[u16], p: u8, x: u8) -> u8
     requires { length ranks.now ≡ 256 }
-    ensures { Highest (rank_by (meaning g.now) ranks.now p x) (2 ^ (meaning g.now).outputs) result }
+    ensures { Highest (rank_by (G.meaning g.now) ranks.now p x) (2 ^ (G.meaning g.now).outputs) result }
 {
     let mut best = 0;
     let mut high = rank_of(g, ranks, p, x, 0);
@@ -31,7 +31,7 @@ pub(crate) fn answer<G: Game>(g: &G, ranks: &[u16], p: u8, x: u8) -> u8
 // The rank of the answer's move.
 fn worth_of<G: Game>(g: &G, ranks: &[u16], p: u8, x: u8) -> u16
     requires { length ranks.now ≡ 256 }
-    ensures { result ≡ worth (meaning g.now) ranks.now p x }
+    ensures { result ≡ worth (G.meaning g.now) ranks.now p x }
 {
     rank_of(g, ranks, p, x, answer(g, ranks, p, x))
 }
@@ -39,7 +39,7 @@ fn worth_of<G: Game>(g: &G, ranks: &[u16], p: u8, x: u8) -> u16
 // The input whose answer's move has the lowest rank, the lowest on ties.
 pub(crate) fn spoiler<G: Game>(g: &G, ranks: &[u16], p: u8) -> u8
     requires { length ranks.now ≡ 256 }
-    ensures { Lowest (worth (meaning g.now) ranks.now p) (2 ^ (meaning g.now).inputs) result }
+    ensures { Lowest (worth (G.meaning g.now) ranks.now p) (2 ^ (G.meaning g.now).inputs) result }
 {
     let mut worst = 0;
     let mut low = worth_of(g, ranks, p, 0);

@@ -9,14 +9,14 @@ use terms::refusal::Refusal;
 
 // Solves a game into its book and says how many bytes that takes.
 pub fn solve<G: Game>(g: &G, book: &mut [u8]) -> Result<usize, Refusal>
-    ensures { MatchResult result (Solved (meaning g.now) book.old book.new) (Declined (meaning g.now) book.old book.new) }
+    ensures { MatchResult result (Solved (G.meaning g.now) book.old book.new) (Declined (G.meaning g.now) book.old book.new) }
 {
     solve_into(g, book)
 }
 
 // The same, step by step.
 fn solve_into<G: Game>(g: &G, book: &mut [u8]) -> Result<usize, Refusal>
-    ensures { MatchResult result (Solved (meaning g.now) book.old book.new) (Declined (meaning g.now) book.old book.new) }
+    ensures { MatchResult result (Solved (G.meaning g.now) book.old book.new) (Declined (G.meaning g.now) book.old book.new) }
 {
     let n = g.size() as usize;
     if n == 0 {

@@ -41,7 +41,7 @@ fn write_front(r: &mut [u8], top: u16, rank: u16, x: u8)
 // The answer to x, or 0 where there is no such input.
 fn answer_byte<G: Game>(g: &G, ranks: &[u16], p: u8, x: u8) -> u8
     requires { length ranks.now ≡ 256 }
-    ensures { Filled (meaning g.now) ranks.now p x result }
+    ensures { Filled (G.meaning g.now) ranks.now p x result }
 {
     if x >= input_count(g) {
         return 0;
@@ -52,7 +52,7 @@ fn answer_byte<G: Game>(g: &G, ranks: &[u16], p: u8, x: u8) -> u8
 // Writes a record's sixteen answers.
 fn write_answers<G: Game>(g: &G, ranks: &[u16], p: u8, r: &mut [u8])
     requires { (length ranks.now ≡ 256) × (length r.old ≡ 16) }
-    ensures { (x : ℕ) → x < 16 → Filled (meaning g.now) ranks.now p x (slice_index r.new x) }
+    ensures { (x : ℕ) → x < 16 → Filled (G.meaning g.now) ranks.now p x (slice_index r.new x) }
 {
     for x in 0..16 {
         r[x] = answer_byte(g, ranks, p, x as u8);
@@ -61,8 +61,8 @@ fn write_answers<G: Game>(g: &G, ranks: &[u16], p: u8, r: &mut [u8])
 
 // The byte for the spoiling input of p.
 fn spoiler_byte<G: Game>(g: &G, ranks: &[u16], top: u16, p: u8) -> u8
-    requires { (Ready (meaning g.now) top ranks.now) × (Place (meaning g.now) p) }
-    ensures { (v : Values (meaning g.now)) → result ≡ input_byte (v.spoiling p) }
+    requires { (Ready (G.meaning g.now) top ranks.now) × (Place (G.meaning g.now) p) }
+    ensures { (v : Values (G.meaning g.now)) → result ≡ input_byte (v.spoiling p) }
 {
     if ranks[p as usize] >= top {
         return 0;
@@ -72,8 +72,8 @@ fn spoiler_byte<G: Game>(g: &G, ranks: &[u16], top: u16, p: u8) -> u8
 
 // Writes the record of p into the 24 bytes that are lent for it.
 fn write_record<G: Game>(g: &G, ranks: &[u16], top: u16, p: u8, r: &mut [u8])
-    requires { (Ready (meaning g.now) top ranks.now) × ((Place (meaning g.now) p) × (length r.old ≡ 24)) }
-    ensures { (v : Values (meaning g.now)) → Entry (meaning g.now) v p r.new }
+    requires { (Ready (G.meaning g.now) top ranks.now) × ((Place (G.meaning g.now) p) × (length r.old ≡ 24)) }
+    ensures { (v : Values (G.meaning g.now)) → Entry (G.meaning g.now) v p r.new }
 {
     let x = spoiler_byte(g, ranks, top, p);
     write_front(&mut r[0..8], top, ranks[p as usize], x);
@@ -83,7 +83,7 @@ fn write_record<G: Game>(g: &G, ranks: &[u16], top: u16, p: u8, r: &mut [u8])
 // Writes a book's first eight bytes.
 fn write_header<G: Game>(g: &G, r: &mut [u8])
     requires { length r.old ≡ 8 }
-    ensures { r.new ≡ header (meaning g.now) }
+    ensures { r.new ≡ header (G.meaning g.now) }
 {
     r[0] = 1;
     r[1] = g.inputs();
@@ -97,8 +97,8 @@ fn write_header<G: Game>(g: &G, r: &mut [u8])
 
 // Writes each position's record, in the middle of the book.
 fn write_records<G: Game>(g: &G, ranks: &[u16], top: u16, book: &mut [u8])
-    requires { (Ready (meaning g.now) top ranks.now) × (book_length (meaning g.now).size ≤ length book.old) }
-    ensures { Written (meaning g.now) ((meaning g.now).size + 1) book.old book.new }
+    requires { (Ready (G.meaning g.now) top ranks.now) × (book_length (G.meaning g.now).size ≤ length book.old) }
+    ensures { Written (G.meaning g.now) ((G.meaning g.now).size + 1) book.old book.new }
 {
     for p in 1..g.size() as usize + 1 {
         let at = 8 + 24 * (p - 1);
@@ -108,8 +108,8 @@ fn write_records<G: Game>(g: &G, ranks: &[u16], top: u16, book: &mut [u8])
 
 // Writes the book, of so many bytes.
 pub(crate) fn write_book<G: Game>(g: &G, ranks: &[u16], top: u16, book: &mut [u8], len: usize)
-    requires { (Ready (meaning g.now) top ranks.now) × ((1 ≤ (meaning g.now).size) × ((len ≡ book_length (meaning g.now).size) × (len ≤ length book.old))) }
-    ensures { (((v : Values (meaning g.now)) → Book (meaning g.now) v (take len book.new))) × (drop len book.new ≡ drop len book.old) }
+    requires { (Ready (G.meaning g.now) top ranks.now) × ((1 ≤ (G.meaning g.now).size) × ((len ≡ book_length (G.meaning g.now).size) × (len ≤ length book.old))) }
+    ensures { (((v : Values (G.meaning g.now)) → Book (G.meaning g.now) v (take len book.new))) × (drop len book.new ≡ drop len book.old) }
 {
     write_header(g, &mut book[0..8]);
     write_records(g, ranks, top, book);

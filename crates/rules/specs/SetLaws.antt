@@ -1,7 +1,7 @@
 -- Joining and trimming keep what a list says of failing.
 use Rattle.std.specs.Prelude.{◌≡◌, ℕ, zero, suc, ◌+◌, ◌^◌, ◌<◌, ◌≤◌, min, max, Bool, true, false, cond, ◌||◌, ◌⊎◌, ◌↔◌, List, [], ◌∷◌, ◌++◌, map, length, nat_le, refl}
 use Rattle.std.proofs.Common.{sym, ap, subst, ◌∙◌, inl, inr, ⊎_elim, arith}
-use Rattle.std.proofs.Math.Logic.{Iff·trans}
+use Rattle.std.proofs.Math.Logic.{Iff.trans}
 use Rattle.std.specs.Int.Bits.{bit_and, bit_or}
 use Rattle.std.proofs.lemmas.Bool.{cond_both, eqb-true, or_cases, cases_eq, false≢true}
 use Rattle.rules.specs.Rule.{bit}
@@ -24,7 +24,7 @@ Says Q (sets xs) A = AllBad Q xs ↔ A
 
 pub says_iff : {A B : Type 0} (Q : ℕ → Type 0) (s : Sets) → A ↔ B → Says Q s A → Says Q s B
 says_iff Q too_wide e h = tt
-says_iff Q (sets xs) e h = Iff·trans h e
+says_iff Q (sets xs) e h = Iff.trans h e
 
 bad_left : (Q : ℕ → Type 0) (a b : ℕ) → Bad Q a → Bad Q (bit_or a b)
 bad_left Q a b h = (h.0, h.1, omega (arith, bit_of_or a b h.0), h.3)

@@ -40,7 +40,7 @@ fn told_spoiling(r: Result<Option<u8>, Refusal>) -> Reply
 
 // A call between rounds.
 fn take_between<G: Game>(run: Run, game: &G, book: &[u8], call: Call) -> (Stage, Reply)
-    ensures { (result.0 ≡ stage_after (meaning game.now) book.now call (Stage.Between run)) × (result.1 ≡ stage_reply (meaning game.now) book.now call (Stage.Between run)) }
+    ensures { (result.0 ≡ stage_after (G.meaning game.now) book.now call (Stage.Between run)) × (result.1 ≡ stage_reply (G.meaning game.now) book.now call (Stage.Between run)) }
 {
     match call {
         Call::Open(x) => match run.open(game, book, x) {
@@ -68,7 +68,7 @@ fn take_between<G: Game>(run: Run, game: &G, book: &[u8], call: Call) -> (Stage,
 
 // A call while a round is open.
 fn take_during<G: Game>(round: Round, game: &G, book: &[u8], call: Call) -> (Stage, Reply)
-    ensures { (result.0 ≡ stage_after (meaning game.now) book.now call (Stage.Opened round)) × (result.1 ≡ stage_reply (meaning game.now) book.now call (Stage.Opened round)) }
+    ensures { (result.0 ≡ stage_after (G.meaning game.now) book.now call (Stage.Opened round)) × (result.1 ≡ stage_reply (G.meaning game.now) book.now call (Stage.Opened round)) }
 {
     let mut round = round;
     match call {
@@ -96,7 +96,7 @@ fn take_during<G: Game>(round: Round, game: &G, book: &[u8], call: Call) -> (Sta
 
 // Any call: carried out where it is allowed, and told.
 pub fn take<G: Game>(stage: Stage, game: &G, book: &[u8], call: Call) -> (Stage, Reply)
-    ensures { (result.0 ≡ stage_after (meaning game.now) book.now call stage) × (result.1 ≡ stage_reply (meaning game.now) book.now call stage) }
+    ensures { (result.0 ≡ stage_after (G.meaning game.now) book.now call stage) × (result.1 ≡ stage_reply (G.meaning game.now) book.now call stage) }
 {
     match stage {
         Stage::Between(run) => take_between(run, game, book, call),
@@ -138,7 +138,7 @@ fn advance<G: Game>(
     book: &[u8],
     call: Call,
 ) -> (Stage, Result<Step, Refusal>)
-    ensures { (result.0 ≡ stage_after (meaning game.now) book.now call stage) × (result.1 ≡ step_of (stage_reply (meaning game.now) book.now call stage) (standing_at book.now (stage_position (stage_after (meaning game.now) book.now call stage)))) }
+    ensures { (result.0 ≡ stage_after (G.meaning game.now) book.now call stage) × (result.1 ≡ step_of (stage_reply (G.meaning game.now) book.now call stage) (standing_at book.now (stage_position (stage_after (G.meaning game.now) book.now call stage)))) }
 {
     let (next, reply) = take(stage, game, book, call);
     let step = match stand(&next, game, book) {
@@ -169,7 +169,7 @@ pub fn replay<G: Game>(
     row: &[Call],
     steps: &mut [Step],
 ) -> Result<Standing, Refusal>
-    ensures { Replayed (meaning game.now) book.now row.now steps.old steps.new result }
+    ensures { Replayed (G.meaning game.now) book.now row.now steps.old steps.new result }
 {
     if steps.len() < row.len() {
         return Err(Refusal::StoreTooShort);

@@ -89,7 +89,7 @@ fn spoiling_at(book: &[u8], p: u8) -> Result<Option<u8>, Refusal>
 impl Run {
     // A run of the game from its start, by its book.
     pub fn start<G: Game>(game: &G, book: &[u8]) -> Result<Run, Refusal>
-        ensures { Started (meaning game.now) book.now result }
+        ensures { Started (G.meaning game.now) book.now result }
     {
         accept(game, book)?;
         Ok(Run {
@@ -99,7 +99,7 @@ impl Run {
 
     // Opens the round of an input, with the book's answer as its output.
     pub fn open<G: Game>(self, game: &G, book: &[u8], input: u8) -> Result<Round, Declined>
-        ensures { result ≡ open_at (meaning game.now) book.now self.position input }
+        ensures { result ≡ open_at (G.meaning game.now) book.now self.position input }
     {
         let Run { position } = self;
         if position == 0 {
@@ -129,7 +129,7 @@ impl Run {
 
     // The book's answer to an input, with no round played.
     pub fn consult<G: Game>(self, game: &G, book: &[u8], input: u8) -> Result<(Run, u8), Declined>
-        ensures { result ≡ consult_at (meaning game.now) book.now self.position input }
+        ensures { result ≡ consult_at (G.meaning game.now) book.now self.position input }
     {
         let round = self.open(game, book, input)?;
         let output = round.output();
@@ -177,8 +177,8 @@ impl Round {
 
     // Replaces the output.
     pub fn set<G: Game>(&mut self, game: &G, _book: &[u8], output: u8) -> Result<(), Refusal>
-        ensures after { self.new ≡ set_at (meaning game.now) self.old output }
-        ensures value { result ≡ set_result (meaning game.now) output }
+        ensures after { self.new ≡ set_at (G.meaning game.now) self.old output }
+        ensures value { result ≡ set_result (G.meaning game.now) output }
     {
         if output >= output_count(game) {
             return Err(Refusal::OutOfRange);
@@ -189,7 +189,7 @@ impl Round {
 
     // Ends the round by its move.
     pub fn close<G: Game>(self, game: &G, _book: &[u8]) -> Run
-        ensures { result.position ≡ (meaning game.now).move self.origin self.input self.output }
+        ensures { result.position ≡ (G.meaning game.now).move self.origin self.input self.output }
     {
         let Round {
             origin,

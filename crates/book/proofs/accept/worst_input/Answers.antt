@@ -5,13 +5,13 @@ use Rattle.terms.specs.Order.{Least}
 use Rattle.terms.proofs.BestLaws.{reversed, best_one, turn_takes, turn_keeps}
 use Rattle.terms.proofs.OrderLaws.{count_order}
 use Rattle.book.specs.Told.{answer_told, count_in}
-use Rattle.book.proofs.accept.worst_input.Goals.{then-not-is-at-most, else-not-is-at-most}
+use Rattle.book.proofs.accept.worst_input.Goals.{then-not-is_at_most, else-not-is_at_most}
 use Rattle.book.proofs.accept.worst_input.Goals as goal
 
 pub loop-x-init : goal.loop-x-init
 loop-x-init g c = (
   best_one (reversed count_order) _,
-  c.move-count-low.ensures ∙ ap (λ y. count_in c.args.book.now ((g.G.Game.meaning c.args.g.now).move c.args.p 0 y)) c.answer_told.ensures,
+  c.move_count-low.ensures ∙ ap (λ y. count_in c.args.book.now ((g.G.Game.meaning c.args.g.now).move c.args.p 0 y)) c.answer_told.ensures,
 )
 
 pub loop-x-preserved : goal.loop-x-preserved
@@ -19,10 +19,10 @@ loop-x-preserved g c =
     let a = g.G.Game.meaning c.args.g.now in
     let bs = c.args.book.now in
     let f : ℕ → Count = λ z. count_in bs (a.move c.args.p z (answer_told bs c.args.p z)) in
-    let here = c.move-count-c.ensures ∙ ap (λ y. count_in bs (a.move c.args.p c.loop-x.x y)) c.answer-told-in-loop-x.ensures in
-    elim c.if-not-is-at-most.branch [
-      | then-not-is-at-most w ↦ turn_takes (reversed count_order) f w.worst-is w.low-is here c.loop-x.invariant.1 (not_from_Decides _ c.is-at-most.ensures w.if-not-is-at-most.true) c.loop-x.invariant.0
-      | else-not-is-at-most w ↦ turn_keeps (reversed count_order) f w.worst-is w.low-is here c.loop-x.invariant.1 (c.is-at-most.ensures.0 w.if-not-is-at-most.false) c.loop-x.invariant.0
+    let here = c.move_count-c.ensures ∙ ap (λ y. count_in bs (a.move c.args.p c.loop-x.x y)) c.answer_told-in-loop-x.ensures in
+    elim c.if-not-is_at_most.branch [
+      | then-not-is_at_most w ↦ turn_takes (reversed count_order) f w.worst-is w.low-is here c.loop-x.invariant.1 (not_from_Decides _ c.is_at_most.ensures w.if-not-is_at_most.true) c.loop-x.invariant.0
+      | else-not-is_at_most w ↦ turn_keeps (reversed count_order) f w.worst-is w.low-is here c.loop-x.invariant.1 (c.is_at_most.ensures.0 w.if-not-is_at_most.false) c.loop-x.invariant.0
     ]
 
 pub returns : goal.returns

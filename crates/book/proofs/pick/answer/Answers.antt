@@ -5,14 +5,14 @@ use Rattle.book.proofs.pick.answer.Goals.{then-r-high, else-r-high}
 use Rattle.book.proofs.pick.answer.Goals as goal
 
 pub loop-y-init : goal.loop-y-init
-loop-y-init g c = (best_one number_order _, c.rank-of-high.ensures)
+loop-y-init g c = (best_one number_order _, c.rank_of-high.ensures)
 
 pub loop-y-preserved : goal.loop-y-preserved
 loop-y-preserved g c =
     let f = rank_by (g.G.Game.meaning c.args.g.now) c.args.ranks.now c.args.p c.args.x in
     elim c.if-r-high.branch [
-      | then-r-high w ↦ turn_takes number_order f w.best-is w.high-is c.rank-of-r.ensures c.loop-y.invariant.1 (λ k. omega (arith, w.if-r-high.true)) c.loop-y.invariant.0
-      | else-r-high w ↦ turn_keeps number_order f w.best-is w.high-is c.rank-of-r.ensures c.loop-y.invariant.1 w.if-r-high.false c.loop-y.invariant.0
+      | then-r-high w ↦ turn_takes number_order f w.best-is w.high-is c.rank_of-r.ensures c.loop-y.invariant.1 (λ k. omega (arith, w.if-r-high.true)) c.loop-y.invariant.0
+      | else-r-high w ↦ turn_keeps number_order f w.best-is w.high-is c.rank_of-r.ensures c.loop-y.invariant.1 w.if-r-high.false c.loop-y.invariant.0
     ]
 
 pub returns : goal.returns

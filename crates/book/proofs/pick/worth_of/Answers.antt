@@ -3,4 +3,4 @@ use Rattle.book.proofs.PickLaws.{highest_greatest}
 use Rattle.book.proofs.pick.worth_of.Goals as goal
 
 pub returns : goal.returns
-returns g c = c.rank-of.ensures ∙ highest_greatest _ _ _ c.answer.ensures
+returns g c = c.rank_of.ensures ∙ highest_greatest _ _ _ c.answer.ensures

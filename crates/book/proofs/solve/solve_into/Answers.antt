@@ -9,8 +9,8 @@ use Rattle.book.proofs.solve.solve_into.Goals as goal
 pub returns-then-n-eq0 : goal.returns-then-n-eq0
 returns-then-n-eq0 g c = record { cause = none refl (omega arith); same = refl }
 
-pub returns-in-default : goal.returns-in-default
-returns-in-default g c = record { cause = sweeps refl (omega arith) (λ t. c.in-default.ensures t.0 t.1 t.2); same = refl }
+pub returns-in_default : goal.returns-in_default
+returns-in_default g c = record { cause = sweeps refl (omega arith) (λ t. c.in_default.ensures t.0 t.1 t.2); same = refl }
 
 pub returns-then-book-len : goal.returns-then-book-len
 returns-then-book-len g c = record { cause = short refl (omega arith) (in_time _ (g.G.Game.sound c.args.g.now)) (omega arith); same = refl }
@@ -19,7 +19,7 @@ pub returns : goal.returns
 returns g c =
     let a = g.G.Game.meaning c.args.g.now in
     let sound = g.G.Game.sound c.args.g.now in
-    let b = c.write-book.ensures in
+    let b = c.write_book.ensures in
     record {
       long = omega arith;
       values = values a;

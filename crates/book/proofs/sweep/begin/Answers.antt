@@ -5,7 +5,7 @@ use Rattle.book.proofs.RankLaws.{tells_lost, told_more}
 use Rattle.book.proofs.sweep.begin.Goals as goal
 
 pub loop-q-preserved : goal.loop-q-preserved
-loop-q-preserved g c = told_more _ 0 c.loop-q.ranks c.loop-q.q _ (omega arith) c.loop-q.invariant c.first-rank.ensures
+loop-q-preserved g c = told_more _ 0 c.loop-q.ranks c.loop-q.q _ (omega arith) c.loop-q.invariant c.first_rank.ensures
 
 pub returns : goal.returns
 returns g c q = elim (cases_lt q 256) [

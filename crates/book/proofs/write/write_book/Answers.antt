@@ -4,6 +4,6 @@ use Rattle.book.proofs.write.write_book.Goals as goal
 
 pub returns : goal.returns
 returns g c =
-    let eight : length c.write-header.new.r ≡ 8 = ap length c.write-header.ensures in
-    let long : length c.write-records.new.book ≡ length c.args.book.now = c.write-records.auto.book ∙ front_long c.args.book.now c.write-header.new.r eight (omega arith) in
-    book_from _ c.args.book.now c.write-header.new.r c.write-records.new.book c.args.len (omega arith) (omega arith) (omega arith) long c.write-header.ensures c.write-records.ensures
+    let eight : length c.write_header.new.r ≡ 8 = ap length c.write_header.ensures in
+    let long : length c.write_records.new.book ≡ length c.args.book.now = c.write_records.auto.book ∙ front_long c.args.book.now c.write_header.new.r eight (omega arith) in
+    book_from _ c.args.book.now c.write_header.new.r c.write_records.new.book c.args.len (omega arith) (omega arith) (omega arith) long c.write_header.ensures c.write_records.ensures

@@ -8,7 +8,7 @@ pub loop-p-init : goal.loop-p-init
 loop-p-init g c = written_none _ _
 
 pub loop-p-preserved : goal.loop-p-preserved
-loop-p-preserved g c = written_more _ c.loop-p.p c.args.book.now c.loop-p.book c.write-record.new.r _ _ refl (omega arith) (omega arith) (omega arith) (omega arith) (omega arith) (entry_long (c.write-record.ensures (values _))) c.write-record.ensures c.loop-p.invariant
+loop-p-preserved g c = written_more _ c.loop-p.p c.args.book.now c.loop-p.book c.write_record.new.r _ _ refl (omega arith) (omega arith) (omega arith) (omega arith) (omega arith) (entry_long (c.write_record.ensures (values _))) c.write_record.ensures c.loop-p.invariant
 
 pub returns : goal.returns
 returns g c =

@@ -18,28 +18,28 @@ returns-then-names-lt-NAMES c = stores_short (λ room. elim c.then-names-lt-NAME
   | then-names-lt-NAMES-via-else-names-lt-NAMES+else-parts-lt-PARTS+then-positions-lt-POSITIONS w ↦ omega (arith, w.if-positions-lt-POSITIONS.true, room.for_positions)
 ])
 
-pub returns-in-err-texts : goal.returns-in-err-texts
-returns-in-err-texts c =
+pub returns-in_err-texts : goal.returns-in_err-texts
+returns-in_err-texts c =
     let names = c.args.names.now in
     let parts = c.args.parts.now in
     let store = c.args.positions.now in
     let roomy : Roomy names parts store = record { for_names = c.if-names-lt-NAMES.false; for_parts = c.if-parts-lt-PARTS.false; for_positions = c.if-positions-lt-POSITIONS.false } in
-    let e = err_from_is_err_and c.from-residual.result c.from-residual.ensures.1 in
-    let zero = all_equal unused (length store) c.clear-positions.new.positions c.clear-positions.ensures in
-    subst (λ r. Compiles names parts store c.args.named.now c.args.ruled.now r c.read.new.names c.read.new.parts c.clear-positions.new.positions) (sym (e.1 ∙ ap Err e.2)) (text_refused roomy c.in-err-texts.ensures zero)
+    let e = err_from_is_err_and c.from_residual.result c.from_residual.ensures.1 in
+    let zero = all_equal unused (length store) c.clear_positions.new.positions c.clear_positions.ensures in
+    subst (λ r. Compiles names parts store c.args.named.now c.args.ruled.now r c.read.new.names c.read.new.parts c.clear_positions.new.positions) (sym (e.1 ∙ ap Err e.2)) (text_refused roomy c.in_err-texts.ensures zero)
 
-pub slice-bounds-build-end : goal.slice-bounds-build-end
-slice-bounds-build-end c =
-    let t = c.in-ok-texts.texts in
-    let b = both_say c.args.names.now c.args.parts.now c.args.named.now c.args.ruled.now t c.read.new.names c.read.new.parts c.in-ok-texts.ensures in
+pub slice_bounds-build-end : goal.slice_bounds-build-end
+slice_bounds-build-end c =
+    let t = c.in_ok-texts.texts in
+    let b = both_say c.args.names.now c.args.parts.now c.args.named.now c.args.ruled.now t c.read.new.names c.read.new.parts c.in_ok-texts.ensures in
     omega (arith, b.count_is, b.small.parts, c.if-parts-lt-PARTS.false, c.read.auto.parts)
 
 pub build-requires : goal.build-requires
 build-requires c =
-    let t = c.in-ok-texts.texts in
-    let b = both_say c.args.names.now c.args.parts.now c.args.named.now c.args.ruled.now t c.read.new.names c.read.new.parts c.in-ok-texts.ensures in
+    let t = c.in_ok-texts.texts in
+    let b = both_say c.args.names.now c.args.parts.now c.args.named.now c.args.ruled.now t c.read.new.names c.read.new.parts c.in_ok-texts.ensures in
     let front = take (t.rule.parts - 0) c.read.new.parts in
-    let zero = c.clear-positions.ensures in
+    let zero = c.clear_positions.ensures in
     record {
       parts = (
         subst (λ ps. length ps ≤ 64) (sym b.front_is) b.small.parts,
@@ -52,7 +52,7 @@ build-requires c =
         ),
       );
       signals = (omega (arith, b.inputs_are, b.few_in), omega (arith, b.outputs_are, b.few_out));
-      store = (omega (arith, c.clear-positions.auto.positions), λ k. ap (λ (ps : List Position). get_or ps k unused) zero ∙ getD_equal (length c.args.positions.now) k unused);
+      store = (omega (arith, c.clear_positions.auto.positions), λ k. ap (λ (ps : List Position). get_or ps k unused) zero ∙ getD_equal (length c.args.positions.now) k unused);
     }
 
 pub returns-in-Ok : goal.returns-in-Ok
@@ -61,8 +61,8 @@ returns-in-Ok c =
     let parts = c.args.parts.now in
     let store = c.args.positions.now in
     let roomy : Roomy names parts store = record { for_names = c.if-names-lt-NAMES.false; for_parts = c.if-parts-lt-PARTS.false; for_positions = c.if-positions-lt-POSITIONS.false } in
-    let t = c.in-ok-texts.texts in
-    let b = both_say names parts c.args.named.now c.args.ruled.now t c.read.new.names c.read.new.parts c.in-ok-texts.ensures in
+    let t = c.in_ok-texts.texts in
+    let b = both_say names parts c.args.named.now c.args.ruled.now t c.read.new.names c.read.new.parts c.in_ok-texts.ensures in
     compiles roomy (built_served names c.args.named.now c.args.ruled.now t c.read.new.names c.read.new.parts c.build.new.positions b c.in-Ok.found c.in-Ok.ensures)
 
 pub returns-in-Err : goal.returns-in-Err
@@ -71,7 +71,7 @@ returns-in-Err c =
     let parts = c.args.parts.now in
     let store = c.args.positions.now in
     let roomy : Roomy names parts store = record { for_names = c.if-names-lt-NAMES.false; for_parts = c.if-parts-lt-PARTS.false; for_positions = c.if-positions-lt-POSITIONS.false } in
-    let t = c.in-ok-texts.texts in
-    let b = both_say names parts c.args.named.now c.args.ruled.now t c.read.new.names c.read.new.parts c.in-ok-texts.ensures in
+    let t = c.in_ok-texts.texts in
+    let b = both_say names parts c.args.named.now c.args.ruled.now t c.read.new.names c.read.new.parts c.in_ok-texts.ensures in
     rule_refused roomy b.reads_as (built_refused names c.args.named.now c.args.ruled.now t c.read.new.names c.read.new.parts c.build.new.positions b c.in-Err.refusal c.in-Err.ensures)
-    c.clear.ensures (all_equal True _ c.clear-parts.new.parts c.clear-parts.ensures) (all_equal unused _ c.clear-positions-in-Err.new.positions c.clear-positions-in-Err.ensures)
+    c.clear.ensures (all_equal True _ c.clear_parts.new.parts c.clear_parts.ensures) (all_equal unused _ c.clear_positions-in-Err.new.positions c.clear_positions-in-Err.ensures)

@@ -8,11 +8,11 @@ returns-in-Some c =
     subst (Given c.args.used c.args.list c.args.positions.now _) c.in-Some.is
     (enter_given c.args.used c.args.list c.args.positions.now c.requires.0 c.requires.1 (omega arith) c.if-list-eq0.false c.registered.result c.registered.new.store c.registered.ensures.value c.registered.ensures.store)
 
-pub overflow-cast-result : goal.overflow-cast-result
-overflow-cast-result c = record { fits = omega (arith, (returns-in-Some c).few) }
+pub overflow_cast-result : goal.overflow_cast-result
+overflow_cast-result c = record { fits = omega (arith, (returns-in-Some c).few) }
 
-pub overflow-add-result : goal.overflow-add-result
-overflow-add-result c = record { fits = omega (arith, (returns-in-Some c).few) }
+pub overflow_add-result : goal.overflow_add-result
+overflow_add-result c = record { fits = omega (arith, (returns-in-Some c).few) }
 
 pub returns-then-list-eq0 : goal.returns-then-list-eq0
 returns-then-list-eq0 c = enter_empty c.args.used c.args.list c.args.positions.now (omega arith) c.if-list-eq0.true

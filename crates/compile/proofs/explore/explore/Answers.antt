@@ -11,8 +11,8 @@ use Rattle.compile.proofs.ChartLaws.{chart_first, chart_done}
 use Rattle.compile.proofs.ExploreLaws.{explore_more, explore_done, explore_stuck}
 use Rattle.compile.proofs.explore.explore.Goals as goal
 
-pub explore-position-requires : goal.explore-position-requires
-explore-position-requires c = record {
+pub explore_position-requires : goal.explore_position-requires
+explore_position-requires c = record {
   outlined = (c.requires.outlined.0, c.loop-p.invariant.2);
   signals = c.requires.signals;
   charting = (c.loop-p.invariant.0, c.loop-p-test.true);
@@ -36,11 +36,11 @@ loop-p-preserved c =
       c.loop-p.invariant.1
           ∙ explore_more ps c.args.inputs c.args.outputs c.loop-p.used c.loop-p.p c.loop-p.positions c.loop-p-test.true (omega (arith, stored.room, stored.long)) (omega (arith, c.loop-p-test.true, stored.room))
           ∙ ap (explore (256 - (c.loop-p.p + 1)) ps (rounds c.args.inputs c.args.outputs) (c.loop-p.p + 1)) leaves.0,
-      c.explore-position.ensures.remembered,
+      c.explore_position.ensures.remembered,
     )
 
-pub overflow-add-p : goal.overflow-add-p
-overflow-add-p c = record { fits = omega (arith, c.loop-p.invariant.0.stored.room, c.loop-p-test.true) }
+pub overflow_add-p : goal.overflow_add-p
+overflow_add-p c = record { fits = omega (arith, c.loop-p.invariant.0.stored.room, c.loop-p-test.true) }
 
 pub loop-p-smaller : goal.loop-p-smaller
 loop-p-smaller c = omega (arith, c.loop-p.invariant.0.stored.room, c.loop-p-test.true)

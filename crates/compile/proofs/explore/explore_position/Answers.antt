@@ -9,9 +9,9 @@ use Rattle.compile.proofs.ExploreLaws.{moves_step, moves_done, moves_stuck}
 use Rattle.compile.proofs.explore.explore_position.Goals as goal
 use Rattle.compile.proofs.explore.explore_position.Goals.{then-n-most, else-n-most}
 
-pub explore-round-requires : goal.explore-round-requires
-explore-round-requires c =
-    let most : c.count-of.result * c.count-of-2.result ≤ 16 * 16 = mul-le-mul c.count-of.ensures.1 c.count-of-2.ensures.1 in
+pub explore_round-requires : goal.explore_round-requires
+explore_round-requires c =
+    let most : c.count_of.result * c.count_of-2.result ≤ 16 * 16 = mul-le-mul c.count_of.ensures.1 c.count_of-2.ensures.1 in
     record {
       outlined = (c.requires.outlined.0, c.loop-t.invariant.3);
       round = (omega (arith, c.loop-t-test.true), c.requires.signals.1);
@@ -26,10 +26,10 @@ loop-t-preserved c =
     let n = c.in-Ok.n in
     let turns = 2 ^ c.args.inputs * 2 ^ c.args.outputs in
     let ps = parts_in c.args.outline.now in
-    let after = c.explore-round.new.positions in
+    let after = c.explore_round.new.positions in
     let round = c.in-Ok.ensures.goes in
-    let most : c.count-of.result * c.count-of-2.result ≤ 16 * 16 = mul-le-mul c.count-of.ensures.1 c.count-of-2.ensures.1 in
-    let count : c.count-of.result * c.count-of-2.result ≡ 2 ^ c.args.inputs * 2 ^ c.args.outputs = ap₂ (λ x y. x * y) c.count-of.ensures.0 c.count-of-2.ensures.0 in
+    let most : c.count_of.result * c.count_of-2.result ≤ 16 * 16 = mul-le-mul c.count_of.ensures.1 c.count_of-2.ensures.1 in
+    let count : c.count_of.result * c.count_of-2.result ≡ 2 ^ c.args.inputs * 2 ^ c.args.outputs = ap₂ (λ x y. x * y) c.count_of.ensures.0 c.count_of-2.ensures.0 in
     let used : c.if-n-most.most ≡ max c.loop-t.most n = elim c.if-n-most.branch [
       | then-n-most w ↦ w.most_is ∙ omega (arith, w.if-n-most.true)
       | else-n-most w ↦ w.most_is ∙ omega (arith, w.if-n-most.false)
@@ -43,14 +43,14 @@ loop-t-preserved c =
           ∙ ap (λ e. fold (move ps (suc c.args.p) (list_in (get_or c.loop-t.positions c.args.p unused))) e (drop (c.loop-t.t + 1) (rounds c.args.inputs c.args.outputs))) round.is
           ∙ ap₂ (λ s u. fold (move ps (suc c.args.p) s) (positions (known_in u after)) (drop (c.loop-t.t + 1) (rounds c.args.inputs c.args.outputs))) (sym kept) (sym used),
       omega (arith, c.loop-t.invariant.2),
-      c.explore-round.ensures.remembered,
+      c.explore_round.ensures.remembered,
     )
 
 pub returns-in-Err : goal.returns-in-Err
 returns-in-Err c =
     let ps = parts_in c.args.outline.now in
     let goes = c.in-Err.ensures.goes in
-    let count : c.count-of.result * c.count-of-2.result ≡ 2 ^ c.args.inputs * 2 ^ c.args.outputs = ap₂ (λ x y. x * y) c.count-of.ensures.0 c.count-of-2.ensures.0 in
+    let count : c.count_of.result * c.count_of-2.result ≡ 2 ^ c.args.inputs * 2 ^ c.args.outputs = ap₂ (λ x y. x * y) c.count_of.ensures.0 c.count_of-2.ensures.0 in
     record {
       leaves =
           ap reason (
@@ -58,14 +58,14 @@ returns-in-Err c =
           ∙ moves_step ps c.args.inputs c.args.outputs c.args.p c.loop-t.t _ _ (omega (arith, c.loop-t-test.true))
           ∙ moves_stuck ps (suc c.args.p) _ (drop (c.loop-t.t + 1) (rounds c.args.inputs c.args.outputs)) _ c.in-Err.e goes)
           ∙ goes;
-      remembered = c.explore-round.ensures.remembered;
+      remembered = c.explore_round.ensures.remembered;
     }
 
 pub returns : goal.returns
 returns c =
     let turns = 2 ^ c.args.inputs * 2 ^ c.args.outputs in
     let ps = parts_in c.args.outline.now in
-    let count : c.count-of.result * c.count-of-2.result ≡ 2 ^ c.args.inputs * 2 ^ c.args.outputs = ap₂ (λ x y. x * y) c.count-of.ensures.0 c.count-of-2.ensures.0 in
+    let count : c.count_of.result * c.count_of-2.result ≡ 2 ^ c.args.inputs * 2 ^ c.args.outputs = ap₂ (λ x y. x * y) c.count_of.ensures.0 c.count_of-2.ensures.0 in
     let all : c.loop-t.t ≡ 2 ^ c.args.inputs * 2 ^ c.args.outputs = omega (arith, c.loop-t-test.false, c.loop-t.auto.t-end) in
     record {
       leaves = (

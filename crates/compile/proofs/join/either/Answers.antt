@@ -15,12 +15,12 @@ unfolding join_or
 returns c =
     let a = c.args.a.now in
     let b = c.args.b.now in
-    let one = c.put-row.new.out in
-    let two = c.put-row-2.new.out in
+    let one = c.put_row.new.out in
+    let two = c.put_row-2.new.out in
     let of-a : take (a.len - 0) a.sets ≡ items a = front_is a.len a.sets in
     let of-b : take (b.len - 0) b.sets ≡ items b = front_is b.len b.sets in
     let long-a : length (take (a.len - 0) a.sets) ≡ a.len = front_length a.len a.sets (omega arith) in
     let long-b : length (take (b.len - 0) b.sets) ≡ b.len = front_length b.len b.sets (omega arith) in
-    let first : take a.len one ≡ items a = ap (λ n. take n one) (omega (arith, long-a)) ∙ c.put-row.ensures ∙ map_or_empty _ ∙ of-a in
-    let got : take (a.len + b.len - 0) two ≡ items a ++ items b = ap (λ n. take n two) (omega (arith, long-b)) ∙ c.put-row-2.ensures ∙ (λ j. first j ++ (map_or_empty _ ∙ of-b) j) in
+    let first : take a.len one ≡ items a = ap (λ n. take n one) (omega (arith, long-a)) ∙ c.put_row.ensures ∙ map_or_empty _ ∙ of-a in
+    let got : take (a.len + b.len - 0) two ≡ items a ++ items b = ap (λ n. take n two) (omega (arith, long-b)) ∙ c.put_row-2.ensures ∙ (λ j. first j ++ (map_or_empty _ ∙ of-b) j) in
     subst (λ l. Gives c.trimmed.result (fit (trim l))) got c.trimmed.ensures

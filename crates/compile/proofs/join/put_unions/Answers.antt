@@ -4,8 +4,8 @@ use Rattle.std.proofs.lemmas.List.{append_assoc, append-nil, at_drop_more, at_dr
 use Rattle.rules.specs.Sets.{unions}
 use Rattle.compile.proofs.join.put_unions.Goals as goal
 
-pub put-row-requires : goal.put-row-requires
-put-row-requires c =
+pub put_row-requires : goal.put_row-requires
+put_row-requires c =
     let n = length c.args.ys.now in
     let i = c.loop-x.x-index in
     let below : (i + 1) * n ≤ length c.args.xs.now * n = mul-le-mul_right n (omega arith) in
@@ -21,7 +21,7 @@ loop-x-preserved c =
     let row = map (bit_or (get_or xs i 0)) ys in
     let rest = unions (drop (i + 1) xs) ys in
     let left : unions (drop i xs) ys ≡ row ++ rest = at_drop_more (λ l. unions l ys) xs i 0 c.loop-x-test.true in
-    (omega (arith, add-mul i 1 (length ys)), ap (λ l. l ++ rest) c.put-row.ensures ∙ append_assoc done row rest ∙ ap (λ l. done ++ l) (sym left) ∙ c.loop-x.invariant.1)
+    (omega (arith, add-mul i 1 (length ys)), ap (λ l. l ++ rest) c.put_row.ensures ∙ append_assoc done row rest ∙ ap (λ l. done ++ l) (sym left) ∙ c.loop-x.invariant.1)
 
 pub returns : goal.returns
 unfolding unions

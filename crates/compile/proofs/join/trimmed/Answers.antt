@@ -8,7 +8,7 @@ use Rattle.compile.proofs.join.trimmed.Goals as goal
 pub returns : goal.returns
 returns c =
     let xs = c.args.gathered.now in
-    let ys = c.sort-unstable.new.self in
-    let rising = IsNonDecreasingBy-from_sort (λ x. x) ys c.sort-unstable.ensures.sorted in
-    let same : sifted [] ys ≡ trim xs = sifted_sorted xs ys c.sort-unstable.ensures.permutation rising in
+    let ys = c.sort_unstable.new.self in
+    let rising = IsNonDecreasingBy-from_sort (λ x. x) ys c.sort_unstable.ensures.sorted in
+    let same : sifted [] ys ≡ trim xs = sifted_sorted xs ys c.sort_unstable.ensures.permutation rising in
     subst (λ l. Gives c.sift.result (fit l)) same c.sift.ensures

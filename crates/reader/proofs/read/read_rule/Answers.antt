@@ -9,5 +9,5 @@ returns-in-Ok c =
     record {
       short = λ l. absurd (omega (arith, c.if-parts.false));
       kept = λ l. absurd (omega (arith, c.if-parts.false));
-      reads = λ l. leaves (known c.args.names.now c.args.inputs c.args.outputs) c.args.text.now c.read-text.new.parts c.clear.new.parts c.in-Ok.reading h.0 h.1 h.2 c.clear.ensures c.clear.auto.parts;
+      reads = λ l. leaves (known c.args.names.now c.args.inputs c.args.outputs) c.args.text.now c.read_text.new.parts c.clear.new.parts c.in-Ok.reading h.0 h.1 h.2 c.clear.ensures c.clear.auto.parts;
     }

@@ -13,16 +13,16 @@ returns-then-names-lt8 c = stores_short (elim c.then-names-lt8.branch [
 pub returns-in-Err : goal.returns-in-Err
 returns-in-Err c =
     let roomy : Roomy c.args.names.now c.args.parts.now = (c.if-names-lt8.false, c.if-parts.false) in
-    signals_wrong c.args.names.now c.args.parts.now c.args.named.now c.args.ruled.now roomy c.in-Err.refusal c.read-signals.new.names c.clear.new.parts c.in-Err.ensures.outcome (zeros c.args.parts.now c.clear.new.parts c.clear.ensures c.clear.auto.parts)
+    signals_wrong c.args.names.now c.args.parts.now c.args.named.now c.args.ruled.now roomy c.in-Err.refusal c.read_signals.new.names c.clear.new.parts c.in-Err.ensures.outcome (zeros c.args.parts.now c.clear.new.parts c.clear.ensures c.clear.auto.parts)
 
-pub returns-in-Ok-read-rule : goal.returns-in-Ok-read-rule
-returns-in-Ok-read-rule c =
+pub returns-in-Ok-read_rule : goal.returns-in-Ok-read_rule
+returns-in-Ok-read_rule c =
     let roomy : Roomy c.args.names.now c.args.parts.now = (c.if-names-lt8.false, c.if-parts.false) in
     let room : 64 ≤ length c.clear.new.parts = omega (arith, c.clear.auto.parts, roomy.1) in
-    all_served c.args.names.now c.args.parts.now c.args.named.now c.args.ruled.now roomy c.in-Ok.signals c.read-signals.new.names c.in-Ok.ensures.outcome c.in-Ok-read-rule.rule c.read-rule.new.parts (c.in-Ok-read-rule.ensures.reads room)
+    all_served c.args.names.now c.args.parts.now c.args.named.now c.args.ruled.now roomy c.in-Ok.signals c.read_signals.new.names c.in-Ok.ensures.outcome c.in-Ok-read_rule.rule c.read_rule.new.parts (c.in-Ok-read_rule.ensures.reads room)
 
-pub returns-in-Err-read-rule : goal.returns-in-Err-read-rule
-returns-in-Err-read-rule c =
+pub returns-in-Err-read_rule : goal.returns-in-Err-read_rule
+returns-in-Err-read_rule c =
     let roomy : Roomy c.args.names.now c.args.parts.now = (c.if-names-lt8.false, c.if-parts.false) in
     let room : 64 ≤ length c.clear.new.parts = omega (arith, c.clear.auto.parts, roomy.1) in
-    rule_wrong c.args.names.now c.args.parts.now c.args.named.now c.args.ruled.now roomy c.in-Ok.signals c.read-signals.new.names c.in-Ok.ensures.outcome c.in-Err-read-rule.refusal c.clear-in-Err-read-rule.new.names c.read-rule.new.parts (c.in-Err-read-rule.ensures.reads room) c.clear-in-Err-read-rule.ensures
+    rule_wrong c.args.names.now c.args.parts.now c.args.named.now c.args.ruled.now roomy c.in-Ok.signals c.read_signals.new.names c.in-Ok.ensures.outcome c.in-Err-read_rule.refusal c.clear-in-Err-read_rule.new.names c.read_rule.new.parts (c.in-Err-read_rule.ensures.reads room) c.clear-in-Err-read_rule.ensures

@@ -3,21 +3,21 @@ use Rattle.std.proofs.Common.{sym, ◌∙◌}
 use Rattle.compile.proofs.TableGameLaws.{answered_lost, answered_found, Asked, asked_within, asked_above}
 use Rattle.compile.proofs.compiled.CompiledRuleGame.step.Goals as goal
 
-pub returns-then-is-outside : goal.returns-then-is-outside
-returns-then-is-outside c =
-    sym (answered_lost c.args.self.now.numbers c.args.self.now.positions.now _ _ _ _ _ _ c.size-size.ensures c.inputs.ensures c.outputs-outputs.ensures (sym c.is-outside.ensures ∙ c.if-is-outside.true))
+pub returns-then-is_outside : goal.returns-then-is_outside
+returns-then-is_outside c =
+    sym (answered_lost c.args.self.now.numbers c.args.self.now.positions.now _ _ _ _ _ _ c.size-size.ensures c.inputs.ensures c.outputs-outputs.ensures (sym c.is_outside.ensures ∙ c.if-is_outside.true))
 
-pub move-in-q-requires : goal.move-in-q-requires
-move-in-q-requires c =
-    let w = answered_found c.args.self.now.numbers c.args.self.now.positions.now _ _ _ _ _ _ c.size-size.ensures c.inputs.ensures c.outputs-outputs.ensures (sym c.is-outside.ensures ∙ c.if-is-outside.false) in
+pub move_in-q-requires : goal.move_in-q-requires
+move_in-q-requires c =
+    let w = answered_found c.args.self.now.numbers c.args.self.now.positions.now _ _ _ _ _ _ c.size-size.ensures c.inputs.ensures c.outputs-outputs.ensures (sym c.is_outside.ensures ∙ c.if-is_outside.false) in
     (w.few, (w.low, (w.input, w.output)))
 
 pub returns-then-q-size : goal.returns-then-q-size
 returns-then-q-size c =
-    let w = answered_found c.args.self.now.numbers c.args.self.now.positions.now _ _ _ _ _ _ c.size-size.ensures c.inputs.ensures c.outputs-outputs.ensures (sym c.is-outside.ensures ∙ c.if-is-outside.false) in
-    asked_within _ _ _ _ _ _ _ _ w c.move-in-q.ensures c.if-q-size.true
+    let w = answered_found c.args.self.now.numbers c.args.self.now.positions.now _ _ _ _ _ _ c.size-size.ensures c.inputs.ensures c.outputs-outputs.ensures (sym c.is_outside.ensures ∙ c.if-is_outside.false) in
+    asked_within _ _ _ _ _ _ _ _ w c.move_in-q.ensures c.if-q-size.true
 
 pub returns-else-q-size : goal.returns-else-q-size
 returns-else-q-size c =
-    let w = answered_found c.args.self.now.numbers c.args.self.now.positions.now _ _ _ _ _ _ c.size-size.ensures c.inputs.ensures c.outputs-outputs.ensures (sym c.is-outside.ensures ∙ c.if-is-outside.false) in
-    asked_above _ _ _ _ _ _ _ _ w c.move-in-q.ensures c.if-q-size.false
+    let w = answered_found c.args.self.now.numbers c.args.self.now.positions.now _ _ _ _ _ _ c.size-size.ensures c.inputs.ensures c.outputs-outputs.ensures (sym c.is_outside.ensures ∙ c.if-is_outside.false) in
+    asked_above _ _ _ _ _ _ _ _ w c.move_in-q.ensures c.if-q-size.false

@@ -51,50 +51,50 @@ expanded-returns-in-Release t c =
       remembered = c.requires.1.1;
     }
 
-pub expanded-returns-in-err-x : goal.expanded-returns-in-err-x
-expanded-returns-in-err-x t c =
+pub expanded-returns-in_err-x : goal.expanded-returns-in_err-x
+expanded-returns-in_err-x t c =
     record {
-      value = given_none _ _ c.from-residual.ensures ((list_at c.args.self.now c.requires.0 c.args.k _ c.in-Both.is) ∙ wide_left join_and and_strict _ _ c.in-err-x.ensures.value);
-      remembered = c.list-of.ensures.remembered;
+      value = given_none _ _ c.from_residual.ensures ((list_at c.args.self.now c.requires.0 c.args.k _ c.in-Both.is) ∙ wide_left join_and and_strict _ _ c.in_err-x.ensures.value);
+      remembered = c.list_of.ensures.remembered;
     }
 
-pub expanded-returns-in-err-y : goal.expanded-returns-in-err-y
-expanded-returns-in-err-y t c =
+pub expanded-returns-in_err-y : goal.expanded-returns-in_err-y
+expanded-returns-in_err-y t c =
     record {
-      value = given_none _ _ c.from-residual-in-err-y.ensures ((list_at c.args.self.now c.requires.0 c.args.k _ c.in-Both.is) ∙ wide_right join_and and_strict _ _ c.in-ok-x.x c.in-ok-x.ensures.value c.in-err-y.ensures.value);
-      remembered = c.list-of-in-Both.ensures.remembered;
+      value = given_none _ _ c.from_residual-in_err-y.ensures ((list_at c.args.self.now c.requires.0 c.args.k _ c.in-Both.is) ∙ wide_right join_and and_strict _ _ c.in_ok-x.x c.in_ok-x.ensures.value c.in_err-y.ensures.value);
+      remembered = c.list_of-in-Both.ensures.remembered;
     }
 
-pub expanded-returns-in-ok-y : goal.expanded-returns-in-ok-y
-expanded-returns-in-ok-y t c =
+pub expanded-returns-in_ok-y : goal.expanded-returns-in_ok-y
+expanded-returns-in_ok-y t c =
     record {
-      value = given _ _ _ (list_at c.args.self.now c.requires.0 c.args.k _ c.in-Both.is) (joined join_and and_strict _ _ c.in-ok-x.x c.in-ok-y.y _ c.in-ok-x.ensures.value c.in-ok-y.ensures.value c.both.ensures);
-      remembered = c.list-of-in-Both.ensures.remembered;
+      value = given _ _ _ (list_at c.args.self.now c.requires.0 c.args.k _ c.in-Both.is) (joined join_and and_strict _ _ c.in_ok-x.x c.in_ok-y.y _ c.in_ok-x.ensures.value c.in_ok-y.ensures.value c.both.ensures);
+      remembered = c.list_of-in-Both.ensures.remembered;
     }
 
-pub expanded-returns-in-err-x-2 : goal.expanded-returns-in-err-x-2
-expanded-returns-in-err-x-2 t c =
+pub expanded-returns-in_err-x-2 : goal.expanded-returns-in_err-x-2
+expanded-returns-in_err-x-2 t c =
     record {
-      value = given_none _ _ c.from-residual-in-err-x-2.ensures ((list_at c.args.self.now c.requires.0 c.args.k _ c.in-Either.is) ∙ wide_left join_or or_strict _ _ c.in-err-x-2.ensures.value);
-      remembered = c.list-of-in-Either.ensures.remembered;
+      value = given_none _ _ c.from_residual-in_err-x-2.ensures ((list_at c.args.self.now c.requires.0 c.args.k _ c.in-Either.is) ∙ wide_left join_or or_strict _ _ c.in_err-x-2.ensures.value);
+      remembered = c.list_of-in-Either.ensures.remembered;
     }
 
-pub expanded-returns-in-err-y-2 : goal.expanded-returns-in-err-y-2
-expanded-returns-in-err-y-2 t c =
+pub expanded-returns-in_err-y-2 : goal.expanded-returns-in_err-y-2
+expanded-returns-in_err-y-2 t c =
     record {
-      value = given_none _ _ c.from-residual-in-err-y-2.ensures ((list_at c.args.self.now c.requires.0 c.args.k _ c.in-Either.is) ∙ wide_right join_or or_strict _ _ c.in-ok-x-2.x c.in-ok-x-2.ensures.value c.in-err-y-2.ensures.value);
-      remembered = c.list-of-in-Either-2.ensures.remembered;
+      value = given_none _ _ c.from_residual-in_err-y-2.ensures ((list_at c.args.self.now c.requires.0 c.args.k _ c.in-Either.is) ∙ wide_right join_or or_strict _ _ c.in_ok-x-2.x c.in_ok-x-2.ensures.value c.in_err-y-2.ensures.value);
+      remembered = c.list_of-in-Either-2.ensures.remembered;
     }
 
-pub expanded-returns-in-ok-y-2 : goal.expanded-returns-in-ok-y-2
-expanded-returns-in-ok-y-2 t c =
+pub expanded-returns-in_ok-y-2 : goal.expanded-returns-in_ok-y-2
+expanded-returns-in_ok-y-2 t c =
     record {
-      value = given _ _ _ (list_at c.args.self.now c.requires.0 c.args.k _ c.in-Either.is) (joined join_or or_strict _ _ c.in-ok-x-2.x c.in-ok-y-2.y _ c.in-ok-x-2.ensures.value c.in-ok-y-2.ensures.value c.either.ensures);
-      remembered = c.list-of-in-Either-2.ensures.remembered;
+      value = given _ _ _ (list_at c.args.self.now c.requires.0 c.args.k _ c.in-Either.is) (joined join_or or_strict _ _ c.in_ok-x-2.x c.in_ok-y-2.y _ c.in_ok-x-2.ensures.value c.in_ok-y-2.ensures.value c.either.ensures);
+      remembered = c.list_of-in-Either-2.ensures.remembered;
     }
 
-pub list-of-returns-in-Unknown : goal.list-of-returns-in-Unknown
-list-of-returns-in-Unknown t c =
+pub list_of-returns-in-Unknown : goal.list_of-returns-in-Unknown
+list_of-returns-in-Unknown t c =
     record {
       value = c.expanded-list.ensures.value;
       remembered = remembers_more _ _ c.args.k _ c.expanded-list.ensures.remembered (omega (arith, c.requires.0.short, c.requires.1.0)) (c.noted.ensures _ c.expanded-list.ensures.value);

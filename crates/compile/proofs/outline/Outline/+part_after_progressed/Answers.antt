@@ -7,7 +7,7 @@ use Rattle.compile.proofs.ExpandLaws.{after_at, duty_fits, remembers_more}
 use Rattle.compile.proofs.outline.Outline.+part_after_progressed.Goals as goal
 
 pub progressed-released-requires : goal.progressed-released-requires
-progressed-released-requires t c = (c.in-ok-y.ensures.value.tidy, (c.in-ok-x.ensures.value.tidy, duty_fits c.args.self.now c.requires.outlined.0 c.args.k _ c.in-Release.is c.requires.outlined.1 refl))
+progressed-released-requires t c = (c.in_ok-y.ensures.value.tidy, (c.in_ok-x.ensures.value.tidy, duty_fits c.args.self.now c.requires.outlined.0 c.args.k _ c.in-Release.is c.requires.outlined.1 refl))
 
 pub progressed-returns-in-True : goal.progressed-returns-in-True
 progressed-returns-in-True t c =
@@ -28,7 +28,7 @@ progressed-returns-in-False t c =
 pub progressed-returns-in-Literal : goal.progressed-returns-in-Literal
 progressed-returns-in-Literal t c =
     record {
-      value = given (Some c.constant.result) _ _ ((after_at c.args.self.now c.requires.outlined.0 c.args.k _ c.in-Literal.is (played c.args.turn)) ∙ ap (λ b. cond b of_true of_false) (sym c.is-agreed.ensures)) c.constant.ensures;
+      value = given (Some c.constant.result) _ _ ((after_at c.args.self.now c.requires.outlined.0 c.args.k _ c.in-Literal.is (played c.args.turn)) ∙ ap (λ b. cond b of_true of_false) (sym c.is_agreed.ensures)) c.constant.ensures;
       lists = c.requires.remembers.0;
       afters = c.requires.remembers.1;
     }
@@ -36,85 +36,85 @@ progressed-returns-in-Literal t c =
 pub progressed-returns-in-Next : goal.progressed-returns-in-Next
 progressed-returns-in-Next t c =
     record {
-      value = given _ _ _ (after_at c.args.self.now c.requires.outlined.0 c.args.k _ c.in-Next.is (played c.args.turn)) c.list-of.ensures.value;
-      lists = c.list-of.ensures.remembered;
+      value = given _ _ _ (after_at c.args.self.now c.requires.outlined.0 c.args.k _ c.in-Next.is (played c.args.turn)) c.list_of.ensures.value;
+      lists = c.list_of.ensures.remembered;
       afters = c.requires.remembers.1;
     }
 
-pub progressed-returns-in-err-y : goal.progressed-returns-in-err-y
-progressed-returns-in-err-y t c =
+pub progressed-returns-in_err-y : goal.progressed-returns-in_err-y
+progressed-returns-in_err-y t c =
     record {
-      value = given_none _ _ c.from-residual.ensures ((after_at c.args.self.now c.requires.outlined.0 c.args.k _ c.in-Release.is (played c.args.turn)) ∙ wide_left join_and and_strict _ _ c.in-err-y.ensures.value);
+      value = given_none _ _ c.from_residual.ensures ((after_at c.args.self.now c.requires.outlined.0 c.args.k _ c.in-Release.is (played c.args.turn)) ∙ wide_left join_and and_strict _ _ c.in_err-y.ensures.value);
       lists = c.part_after.ensures.lists;
       afters = c.part_after.ensures.afters;
     }
 
-pub progressed-returns-in-err-x : goal.progressed-returns-in-err-x
-progressed-returns-in-err-x t c =
+pub progressed-returns-in_err-x : goal.progressed-returns-in_err-x
+progressed-returns-in_err-x t c =
     record {
-      value = given_none _ _ c.from-residual-in-err-x.ensures ((after_at c.args.self.now c.requires.outlined.0 c.args.k _ c.in-Release.is (played c.args.turn)) ∙ wide_right join_and and_strict _ _ c.in-ok-y.y c.in-ok-y.ensures.value (wide_left join_or or_strict _ _ c.in-err-x.ensures.value));
-      lists = c.part-after-in-Release.ensures.lists;
-      afters = c.part-after-in-Release.ensures.afters;
+      value = given_none _ _ c.from_residual-in_err-x.ensures ((after_at c.args.self.now c.requires.outlined.0 c.args.k _ c.in-Release.is (played c.args.turn)) ∙ wide_right join_and and_strict _ _ c.in_ok-y.y c.in_ok-y.ensures.value (wide_left join_or or_strict _ _ c.in_err-x.ensures.value));
+      lists = c.part_after-in-Release.ensures.lists;
+      afters = c.part_after-in-Release.ensures.afters;
     }
 
-pub progressed-returns-in-ok-x : goal.progressed-returns-in-ok-x
-progressed-returns-in-ok-x t c =
+pub progressed-returns-in_ok-x : goal.progressed-returns-in_ok-x
+progressed-returns-in_ok-x t c =
     record {
-      value = given _ _ _ ((after_at c.args.self.now c.requires.outlined.0 c.args.k _ c.in-Release.is (played c.args.turn)) ∙ (λ i. join_and (c.in-ok-y.ensures.value.is i) (join_or (c.in-ok-x.ensures.value.is i) (own (sym (c.requires.outlined.0.numbers c.args.k c.requires.outlined.1) i))))) c.released.ensures;
-      lists = c.part-after-in-Release.ensures.lists;
-      afters = c.part-after-in-Release.ensures.afters;
+      value = given _ _ _ ((after_at c.args.self.now c.requires.outlined.0 c.args.k _ c.in-Release.is (played c.args.turn)) ∙ (λ i. join_and (c.in_ok-y.ensures.value.is i) (join_or (c.in_ok-x.ensures.value.is i) (own (sym (c.requires.outlined.0.numbers c.args.k c.requires.outlined.1) i))))) c.released.ensures;
+      lists = c.part_after-in-Release.ensures.lists;
+      afters = c.part_after-in-Release.ensures.afters;
     }
 
-pub progressed-returns-in-err-x-2 : goal.progressed-returns-in-err-x-2
-progressed-returns-in-err-x-2 t c =
+pub progressed-returns-in_err-x-2 : goal.progressed-returns-in_err-x-2
+progressed-returns-in_err-x-2 t c =
     record {
-      value = given_none _ _ c.from-residual-in-err-x-2.ensures ((after_at c.args.self.now c.requires.outlined.0 c.args.k _ c.in-Both.is (played c.args.turn)) ∙ wide_left join_and and_strict _ _ c.in-err-x-2.ensures.value);
-      lists = c.part-after-in-Both.ensures.lists;
-      afters = c.part-after-in-Both.ensures.afters;
+      value = given_none _ _ c.from_residual-in_err-x-2.ensures ((after_at c.args.self.now c.requires.outlined.0 c.args.k _ c.in-Both.is (played c.args.turn)) ∙ wide_left join_and and_strict _ _ c.in_err-x-2.ensures.value);
+      lists = c.part_after-in-Both.ensures.lists;
+      afters = c.part_after-in-Both.ensures.afters;
     }
 
-pub progressed-returns-in-err-y-2 : goal.progressed-returns-in-err-y-2
-progressed-returns-in-err-y-2 t c =
+pub progressed-returns-in_err-y-2 : goal.progressed-returns-in_err-y-2
+progressed-returns-in_err-y-2 t c =
     record {
-      value = given_none _ _ c.from-residual-in-err-y-2.ensures ((after_at c.args.self.now c.requires.outlined.0 c.args.k _ c.in-Both.is (played c.args.turn)) ∙ wide_right join_and and_strict _ _ c.in-ok-x-2.x c.in-ok-x-2.ensures.value c.in-err-y-2.ensures.value);
-      lists = c.part-after-in-Both-2.ensures.lists;
-      afters = c.part-after-in-Both-2.ensures.afters;
+      value = given_none _ _ c.from_residual-in_err-y-2.ensures ((after_at c.args.self.now c.requires.outlined.0 c.args.k _ c.in-Both.is (played c.args.turn)) ∙ wide_right join_and and_strict _ _ c.in_ok-x-2.x c.in_ok-x-2.ensures.value c.in_err-y-2.ensures.value);
+      lists = c.part_after-in-Both-2.ensures.lists;
+      afters = c.part_after-in-Both-2.ensures.afters;
     }
 
-pub progressed-returns-in-ok-y-2 : goal.progressed-returns-in-ok-y-2
-progressed-returns-in-ok-y-2 t c =
+pub progressed-returns-in_ok-y-2 : goal.progressed-returns-in_ok-y-2
+progressed-returns-in_ok-y-2 t c =
     record {
-      value = given _ _ _ (after_at c.args.self.now c.requires.outlined.0 c.args.k _ c.in-Both.is (played c.args.turn)) (joined join_and and_strict _ _ c.in-ok-x-2.x c.in-ok-y-2.y _ c.in-ok-x-2.ensures.value c.in-ok-y-2.ensures.value c.both.ensures);
-      lists = c.part-after-in-Both-2.ensures.lists;
-      afters = c.part-after-in-Both-2.ensures.afters;
+      value = given _ _ _ (after_at c.args.self.now c.requires.outlined.0 c.args.k _ c.in-Both.is (played c.args.turn)) (joined join_and and_strict _ _ c.in_ok-x-2.x c.in_ok-y-2.y _ c.in_ok-x-2.ensures.value c.in_ok-y-2.ensures.value c.both.ensures);
+      lists = c.part_after-in-Both-2.ensures.lists;
+      afters = c.part_after-in-Both-2.ensures.afters;
     }
 
-pub progressed-returns-in-err-x-3 : goal.progressed-returns-in-err-x-3
-progressed-returns-in-err-x-3 t c =
+pub progressed-returns-in_err-x-3 : goal.progressed-returns-in_err-x-3
+progressed-returns-in_err-x-3 t c =
     record {
-      value = given_none _ _ c.from-residual-in-err-x-3.ensures ((after_at c.args.self.now c.requires.outlined.0 c.args.k _ c.in-Either.is (played c.args.turn)) ∙ wide_left join_or or_strict _ _ c.in-err-x-3.ensures.value);
-      lists = c.part-after-in-Either.ensures.lists;
-      afters = c.part-after-in-Either.ensures.afters;
+      value = given_none _ _ c.from_residual-in_err-x-3.ensures ((after_at c.args.self.now c.requires.outlined.0 c.args.k _ c.in-Either.is (played c.args.turn)) ∙ wide_left join_or or_strict _ _ c.in_err-x-3.ensures.value);
+      lists = c.part_after-in-Either.ensures.lists;
+      afters = c.part_after-in-Either.ensures.afters;
     }
 
-pub progressed-returns-in-err-y-3 : goal.progressed-returns-in-err-y-3
-progressed-returns-in-err-y-3 t c =
+pub progressed-returns-in_err-y-3 : goal.progressed-returns-in_err-y-3
+progressed-returns-in_err-y-3 t c =
     record {
-      value = given_none _ _ c.from-residual-in-err-y-3.ensures ((after_at c.args.self.now c.requires.outlined.0 c.args.k _ c.in-Either.is (played c.args.turn)) ∙ wide_right join_or or_strict _ _ c.in-ok-x-3.x c.in-ok-x-3.ensures.value c.in-err-y-3.ensures.value);
-      lists = c.part-after-in-Either-2.ensures.lists;
-      afters = c.part-after-in-Either-2.ensures.afters;
+      value = given_none _ _ c.from_residual-in_err-y-3.ensures ((after_at c.args.self.now c.requires.outlined.0 c.args.k _ c.in-Either.is (played c.args.turn)) ∙ wide_right join_or or_strict _ _ c.in_ok-x-3.x c.in_ok-x-3.ensures.value c.in_err-y-3.ensures.value);
+      lists = c.part_after-in-Either-2.ensures.lists;
+      afters = c.part_after-in-Either-2.ensures.afters;
     }
 
-pub progressed-returns-in-ok-y-3 : goal.progressed-returns-in-ok-y-3
-progressed-returns-in-ok-y-3 t c =
+pub progressed-returns-in_ok-y-3 : goal.progressed-returns-in_ok-y-3
+progressed-returns-in_ok-y-3 t c =
     record {
-      value = given _ _ _ (after_at c.args.self.now c.requires.outlined.0 c.args.k _ c.in-Either.is (played c.args.turn)) (joined join_or or_strict _ _ c.in-ok-x-3.x c.in-ok-y-3.y _ c.in-ok-x-3.ensures.value c.in-ok-y-3.ensures.value c.either.ensures);
-      lists = c.part-after-in-Either-2.ensures.lists;
-      afters = c.part-after-in-Either-2.ensures.afters;
+      value = given _ _ _ (after_at c.args.self.now c.requires.outlined.0 c.args.k _ c.in-Either.is (played c.args.turn)) (joined join_or or_strict _ _ c.in_ok-x-3.x c.in_ok-y-3.y _ c.in_ok-x-3.ensures.value c.in_ok-y-3.ensures.value c.either.ensures);
+      lists = c.part_after-in-Either-2.ensures.lists;
+      afters = c.part_after-in-Either-2.ensures.afters;
     }
 
-pub part-after-returns-in-Unknown : goal.part-after-returns-in-Unknown
-part-after-returns-in-Unknown t c =
+pub part_after-returns-in-Unknown : goal.part_after-returns-in-Unknown
+part_after-returns-in-Unknown t c =
     record {
       value = c.progressed-list.ensures.value;
       lists = c.progressed-list.ensures.lists;

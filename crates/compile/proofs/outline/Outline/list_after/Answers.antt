@@ -13,14 +13,14 @@ pub loop-i-init : goal.loop-i-init
 loop-i-init c =
     let ps = parts_in c.args.self.now in
     let r = played c.args.turn in (
-      c.of-false-any.ensures.tidy,
+      c.of_false-any.ensures.tidy,
       c.requires.1.0,
       remembers_none _,
-      ap (λ s. fold (join_set ps r) s (items c.args.list.now)) (sym c.of-false-any.ensures.is) ∙ sym (list_begins ps r (items c.args.list.now)),
+      ap (λ s. fold (join_set ps r) s (items c.args.list.now)) (sym c.of_false-any.ensures.is) ∙ sym (list_begins ps r (items c.args.list.now)),
     )
 
-pub returns-in-err-one : goal.returns-in-err-one
-returns-in-err-one c =
+pub returns-in_err-one : goal.returns-in_err-one
+returns-in_err-one c =
     let ps = parts_in c.args.self.now in
     let r = played c.args.turn in
     let list = c.args.list.now in
@@ -29,14 +29,14 @@ returns-in-err-one c =
     let long : length (items list) ≡ list.len = length-take-le list.len list.sets (omega arith) in
     let inside : i < length (items list) = omega arith in
     let at : get_or (items list) i 0 ≡ get_or list.sets i 0 = get_or-take list.len list.sets i 0 (omega arith) in
-    let step = ap (λ x. join_or any (set_after ps r x)) at ∙ ap (join_or any) c.in-err-one.ensures.value ∙ or_strict.right (items c.loop-i.any) in
+    let step = ap (λ x. join_or any (set_after ps r x)) at ∙ ap (join_or any) c.in_err-one.ensures.value ∙ or_strict.right (items c.loop-i.any) in
     record {
-      value = given_none _ _ c.from-residual.ensures (sym c.loop-i.invariant.3 ∙ set_wide ps r any (items list) i inside step);
-      remembered = c.set-after.ensures.lists;
+      value = given_none _ _ c.from_residual.ensures (sym c.loop-i.invariant.3 ∙ set_wide ps r any (items list) i inside step);
+      remembered = c.set_after.ensures.lists;
     }
 
-pub returns-in-err-any : goal.returns-in-err-any
-returns-in-err-any c =
+pub returns-in_err-any : goal.returns-in_err-any
+returns-in_err-any c =
     let ps = parts_in c.args.self.now in
     let r = played c.args.turn in
     let list = c.args.list.now in
@@ -45,10 +45,10 @@ returns-in-err-any c =
     let long : length (items list) ≡ list.len = length-take-le list.len list.sets (omega arith) in
     let inside : i < length (items list) = omega arith in
     let at : get_or (items list) i 0 ≡ get_or list.sets i 0 = get_or-take list.len list.sets i 0 (omega arith) in
-    let step = ap (λ x. join_or any (set_after ps r x)) at ∙ ap (join_or any) c.in-ok-one.ensures.value.is ∙ c.in-err-any.ensures in
+    let step = ap (λ x. join_or any (set_after ps r x)) at ∙ ap (join_or any) c.in_ok-one.ensures.value.is ∙ c.in_err-any.ensures in
     record {
-      value = given_none _ _ c.from-residual-in-err-any.ensures (sym c.loop-i.invariant.3 ∙ set_wide ps r any (items list) i inside step);
-      remembered = c.set-after.ensures.lists;
+      value = given_none _ _ c.from_residual-in_err-any.ensures (sym c.loop-i.invariant.3 ∙ set_wide ps r any (items list) i inside step);
+      remembered = c.set_after.ensures.lists;
     }
 
 pub loop-i-preserved : goal.loop-i-preserved
@@ -61,10 +61,10 @@ loop-i-preserved c =
     let long : length (items list) ≡ list.len = length-take-le list.len list.sets (omega arith) in
     let inside : i < length (items list) = omega arith in
     let at : get_or (items list) i 0 ≡ get_or list.sets i 0 = get_or-take list.len list.sets i 0 (omega arith) in
-    let step = ap (λ x. join_or any (set_after ps r x)) at ∙ ap (join_or any) c.in-ok-one.ensures.value.is ∙ c.in-ok-any.ensures.is in (
-      c.in-ok-any.ensures.tidy,
-      c.set-after.ensures.lists,
-      c.set-after.ensures.afters,
+    let step = ap (λ x. join_or any (set_after ps r x)) at ∙ ap (join_or any) c.in_ok-one.ensures.value.is ∙ c.in_ok-any.ensures.is in (
+      c.in_ok-any.ensures.tidy,
+      c.set_after.ensures.lists,
+      c.set_after.ensures.afters,
       ap (λ s. fold (join_set ps r) s (drop (i + 1) (items list))) (sym step) ∙ sym (set_joined ps r any (items list) i inside) ∙ c.loop-i.invariant.3,
     )
 

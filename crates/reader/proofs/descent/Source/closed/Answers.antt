@@ -9,12 +9,12 @@ pub returns-in-Close : goal.returns-in-Close
 returns-in-Close c =
     let src = c.args.self.now in
     let f = c.args.inner in
-    let t = c.next-word-t.result in
-    bracket src f t (peeked (text_of src) f.behind.at t c.next-word-t.ensures.comes) c.next-word-t.ensures.moves _ (ap told c.in-Close.is) refl refl refl
+    let t = c.next_word-t.result in
+    bracket src f t (peeked (text_of src) f.behind.at t c.next_word-t.ensures.comes) c.next_word-t.ensures.moves _ (ap told c.in-Close.is) refl refl refl
 
-pub returns-in-default : goal.returns-in-default
-returns-in-default c =
+pub returns-in_default : goal.returns-in_default
+returns-in_default c =
     let src = c.args.self.now in
     let f = c.args.inner in
-    let t = c.next-word-t.result in
-    no_bracket src f t (peeked (text_of src) f.behind.at t c.next-word-t.ensures.comes) c.next-word-t.ensures.moves c.refuse.ensures c.in-default.not-Close
+    let t = c.next_word-t.result in
+    no_bracket src f t (peeked (text_of src) f.behind.at t c.next_word-t.ensures.comes) c.next_word-t.ensures.moves c.refuse.ensures c.in_default.not-Close

@@ -9,12 +9,12 @@ pub returns-in-Name : goal.returns-in-Name
 returns-in-Name c =
     let src = c.args.self.now in
     let p = c.args.from in
-    let t = c.next-word-t.result in
-    named_comes src p t (peeked (text_of src) p.at t c.next-word-t.ensures.comes) c.next-word-t.ensures.moves c.args.parts.now c.literal.new.parts c.in-Name.letters.now (ap told c.in-Name.is) c.literal.result c.literal.ensures
+    let t = c.next_word-t.result in
+    named_comes src p t (peeked (text_of src) p.at t c.next_word-t.ensures.comes) c.next_word-t.ensures.moves c.args.parts.now c.literal.new.parts c.in-Name.letters.now (ap told c.in-Name.is) c.literal.result c.literal.ensures
 
-pub returns-in-default : goal.returns-in-default
-returns-in-default c =
+pub returns-in_default : goal.returns-in_default
+returns-in_default c =
     let src = c.args.self.now in
     let p = c.args.from in
-    let t = c.next-word-t.result in
-    unnamed src p t (peeked (text_of src) p.at t c.next-word-t.ensures.comes) c.next-word-t.ensures.moves c.refuse.ensures c.in-default.not-Name
+    let t = c.next_word-t.result in
+    unnamed src p t (peeked (text_of src) p.at t c.next_word-t.ensures.comes) c.next_word-t.ensures.moves c.refuse.ensures c.in_default.not-Name

@@ -3,7 +3,7 @@ use Rattle.run.proofs.run.Run.start.Goals as goal
 
 pub returns : goal.returns
 returns g c =
-    let w = c.in-ok-accept.ensures in
+    let w = c.in_ok-accept.ensures in
     record {
       none = λ z. absurd (omega (arith, w.book.sized));
       other = λ _ n. absurd (n (w.values, w.book));
