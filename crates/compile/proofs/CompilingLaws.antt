@@ -21,7 +21,7 @@ use Rattle.rules.specs.Game.{game}
 use Rattle.rules.proofs.FailLaws.{fails_right}
 use Rattle.rules.proofs.GameLaws.{game_right}
 use Rattle.rules.proofs.ReachLaws.{positions_right}
-use Rattle.rules.specs.TableLaws.{parts_good}
+use Rattle.rules.proofs.TableLaws.{parts_good}
 use Rattle.reader.specs.declared.texts.Texts.{Texts}
 use Rattle.reader.specs.declared.texts.Misread.{Misread}
 use Rattle.reader.specs.Names.{known}

@@ -8,7 +8,7 @@ use Rattle.rules.specs.declared.part.Part.{Part}
 use Rattle.rules.specs.Sets.{Sets}
 use Rattle.rules.specs.Parts.{part, Falls, is_duty, duty_number}
 use Rattle.rules.specs.Progress.{list_from, list_of, after_from, part_after}
-use Rattle.rules.specs.PartLaws.{duty_below}
+use Rattle.rules.proofs.PartLaws.{duty_below}
 use Rattle.rules.proofs.StepLaws.{list_step, after_step}
 use Rattle.compile.specs.declared.progress.Known.{Known}
 use Rattle.compile.specs.declared.progress.Known.TheVariants.{Unknown}

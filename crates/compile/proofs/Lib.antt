@@ -6,6 +6,7 @@ pub mod AfterLaws
 pub mod NumberLaws
 pub mod TableGameLaws
 pub mod CompilingLaws
+pub mod PositionLaws
 pub mod RoundLaws
 pub mod ExploreLaws
 pub mod StoreLaws

@@ -5,7 +5,7 @@ use Rattle.std.proofs.lemmas.Bool.{cases_eq, cases_lt}
 use Rattle.rules.specs.declared.part.Part.{Part}
 use Rattle.rules.specs.declared.part.Part.TheVariants.{True}
 use Rattle.rules.specs.Parts.{behind, is_duty, duty_number, duty_part}
-use Rattle.rules.specs.PartLaws.{duty_found}
+use Rattle.rules.proofs.PartLaws.{duty_found}
 use Rattle.reader.proofs.SizeLaws.{none_duties, duty_more}
 use Rattle.compile.specs.Numbering.{Numbered}
 

@@ -15,7 +15,7 @@ use Rattle.compile.specs.declared.position.Position.{Position}
 use Rattle.compile.specs.Listed.{items, Tidy}
 use Rattle.compile.specs.Positions.{unused, same_position}
 use Rattle.compile.specs.Charting.{list_in, known_in, entry_of, Numbers, Whole, Stored, Entry}
-use Rattle.compile.specs.PositionLaws.{place_known, place_new}
+use Rattle.compile.proofs.PositionLaws.{place_known, place_new}
 
 -- entries in use are in the store
 pub in_store : (used p : ℕ) (store : List Position) → Stored used store → p < used → p < length store

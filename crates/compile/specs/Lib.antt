@@ -6,4 +6,4 @@ pub mod Charting
 pub mod Explored
 pub mod TableGame
 pub mod Compiling
-pub mod PositionLaws
+pub mod Same

@@ -1,8 +1,8 @@
 // A position of a compiled rule.
-ghost use Rattle.compile.specs.Positions.{same_position, unused as unused-position};
+ghost use Rattle.compile.specs.Positions.{same_position, unused as unused_position};
 ghost use Rattle.std.specs.Prelude.{◌≡◌, refl};
 ghost use Rattle.std.proofs.Common.{sym, ◌∙◌};
-ghost use Rattle.compile.specs.PositionLaws.{same_position_decides};
+ghost use Rattle.compile.specs.Same.{same_position_decides};
 
 use crate::list::DutyList;
 use register::Same;
@@ -18,7 +18,7 @@ pub struct Position {
 impl Position {
     // An entry that no position uses: all zero.
     pub fn unused() -> Position
-        ensures { result ≡ unused-position }
+        ensures { result ≡ unused_position }
     {
         Position {
             list: DutyList {

@@ -8,9 +8,10 @@ use Rattle.rules.specs.declared.part.Part.{Part}
 use Rattle.rules.specs.declared.part.Part.TheVariants.{True, False, Literal, Next, Release, Both, Either}
 use Rattle.rules.specs.Rule.{Rule, always, never, literal, next, release, both, either}
 use Rattle.rules.specs.Table.{same_part, place, Entry, enter, parts_on}
-use Rattle.rules.specs.TableLaws.{same_true, same_self, place_most}
+use Rattle.rules.proofs.TableLaws.{place_most}
 use Rattle.reader.specs.Entries as entries
 use Rattle.reader.specs.Entries.{Holds, HoldsAt, EntersPart, Enters}
+use Rattle.rules.specs.Same.{same_true, same_self}
 
 -- entering a part keeps what was there
 pub enter_grows : (ps : List Part) (x : Part) → length ps ≤ length (enter ps x).table

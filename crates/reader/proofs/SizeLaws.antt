@@ -7,7 +7,7 @@ use Rattle.rules.specs.declared.part.Part.{Part}
 use Rattle.rules.specs.declared.part.Part.TheVariants.{True}
 use Rattle.rules.specs.Rule.{Rule}
 use Rattle.rules.specs.Parts.{is_duty, duty_number}
-use Rattle.rules.specs.TableLaws.{parts_right}
+use Rattle.rules.proofs.TableLaws.{parts_right}
 use Rattle.reader.specs.declared.read.Reading.{Reading}
 use Rattle.reader.specs.declared.descent.Source.{Source}
 use Rattle.reader.specs.Grammar.{Names, Reads}

@@ -11,7 +11,7 @@ use Rattle.rules.specs.Parts.{duty_number}
 use Rattle.rules.specs.Table.{Entry, parts_of}
 use Rattle.rules.specs.Progress.{list_of, list_after, list_after_all}
 use Rattle.rules.specs.Explore.{Compiled, too_large, lost_start, wide_at, too_many, positions, same_list, among, met, move, numbers, with_inputs, rounds, turn, explore, start, compiled, lists, InRange, AllInRange}
-use Rattle.rules.specs.TableLaws.{rule_lost_right}
+use Rattle.rules.proofs.TableLaws.{rule_lost_right}
 
 abbrev pub Each : {A : Type 0} → (A → Type 0) → List A → Type 0
 Each P [] = Unit {0}

@@ -13,7 +13,7 @@ use Rattle.rules.specs.Explore.{Compiled, too_large, lost_start, wide_at, too_ma
 use Rattle.arena.specs.Arena.{Arena, Sound}
 use Rattle.rules.specs.Game.{number_from, position, rule_move, game}
 use Rattle.rules.proofs.CompileLaws.{Ok, Grows, Is, AllOk, Closed, round_in, same_list_true, same_list_self, run_ok, start_of, Found, found}
-use Rattle.rules.specs.TableLaws.{rule_lost_right}
+use Rattle.rules.proofs.TableLaws.{rule_lost_right}
 
 number_most : (k : ℕ) (known : List (List ℕ)) (s : List ℕ) → number_from (suc k) known s ≤ k + length known
 unfolding number_from

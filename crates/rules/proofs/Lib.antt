@@ -1,4 +1,9 @@
 pub mod FailLaws
+pub mod BitLaws
+pub mod SetLaws
+pub mod PartLaws
+pub mod ProgressLaws
+pub mod TableLaws
 pub mod TrimLaws
 pub mod CompileLaws
 pub mod GameLaws

@@ -10,8 +10,9 @@ use Rattle.rules.specs.declared.part.Part.TheVariants.{True, False, Literal, Nex
 use Rattle.rules.specs.Rule.{Rule, always, never, literal, next, release, both, either}
 use Rattle.rules.specs.Parts.{part, Falls, rule_from, rule_in, rule_of}
 use Rattle.rules.specs.Table.{same_part, place, Entry, enter, parts_on, parts_of, PartOf}
-use Rattle.rules.specs.PartLaws.{rule_stays}
-use Rattle.rules.specs.TableLaws.{same_self, Falling, place_most, place_is, part_front, rule_front, Good, enter_good, parts_good, inside_later}
+use Rattle.rules.proofs.PartLaws.{rule_stays}
+use Rattle.rules.proofs.TableLaws.{Falling, place_most, place_is, part_front, rule_front, Good, enter_good, parts_good, inside_later}
+use Rattle.rules.specs.Same.{same_self}
 
 -- each part stands at its place
 abbrev Single : List Part → Type 0

@@ -8,7 +8,7 @@ use Rattle.std.specs.List.Sorted.{IsPermutation, IsNonDecreasing}
 use Rattle.std.proofs.ByRecursion.{has_get_or, has_shuffled}
 use Rattle.std.proofs.lemmas.List.Sorted.{IsPermutation-sym}
 use Rattle.rules.specs.Sets.{within, covered, insert, ascending, sifted, trim, Trimmed, Trims}
-use Rattle.rules.specs.BitLaws.{Any, bit_zero, bit_suc, bit_of_and}
+use Rattle.rules.proofs.BitLaws.{Any, bit_zero, bit_suc, bit_of_and}
 use Rattle.rules.specs.Rule.{bit}
 
 -- each number is at least the one before it, and the first at least b

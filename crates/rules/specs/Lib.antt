@@ -7,8 +7,4 @@ pub mod Progress
 pub mod Explore
 pub mod Game
 pub mod Claims
-pub mod TableLaws
-pub mod PartLaws
-pub mod ProgressLaws
-pub mod BitLaws
-pub mod SetLaws
+pub mod Same

@@ -2,8 +2,8 @@
 ghost use Rattle.std.specs.Prelude.{◌≡◌};
 ghost use Rattle.std.proofs.Common.{subst, ◌∙◌};
 ghost use Rattle.rules.specs.Parts.{is_duty};
-ghost use Rattle.rules.specs.Table.{same_part, kind as part-kind, left as part_left, right as part_right};
-ghost use Rattle.rules.specs.TableLaws.{same_self, same_true};
+ghost use Rattle.rules.specs.Table.{same_part, kind as part_kind, left as part_left, right as part_right};
+ghost use Rattle.rules.specs.Same.{same_self, same_true};
 ghost use Rattle.std.proofs.Math.Bool;
 
 use register::Same;
@@ -53,7 +53,7 @@ struct Key {
 }
 
 fn key_of(part: Part) -> Key
-    ensures { (result.kind ≡ part-kind part) × ((result.left ≡ part_left part) × (result.right ≡ part_right part)) }
+    ensures { (result.kind ≡ part_kind part) × ((result.left ≡ part_left part) × (result.right ≡ part_right part)) }
 {
     match part {
         Part::True => Key {

@@ -1,3 +1,6 @@
+pub mod WordLaws
+pub mod PlainLaws
+pub mod NameLaws
 pub mod SoughtLaws
 pub mod SignalLaws
 pub mod StepLaws

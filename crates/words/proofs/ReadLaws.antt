@@ -12,8 +12,8 @@ use Rattle.words.specs.Words.{Said, in', out', name', Placed, at, said, Words, w
 use Rattle.words.specs.Names.{HoldsNames}
 use Rattle.words.specs.Signals.{In, listed, Is-signals, Begins, Told, Answer, served, refused, Fits, Outcome, store_short, text_long, reads, word_wrong, end_wrong, Gives, Leaves, Written, Read, Fault, strange, misplaced, long, repeated, fifth}
 use Rattle.words.specs.Steps.{Step, sort, by_stage, finished}
-use Rattle.words.specs.WordLaws.{words_all}
-use Rattle.words.specs.PlainLaws.{Plain, Plainly, words_plain, from_plain}
+use Rattle.words.proofs.WordLaws.{words_all}
+use Rattle.words.proofs.PlainLaws.{Plain, Plainly, words_plain, from_plain}
 use Rattle.words.proofs.SignalLaws.{in_right, all_in, all_from, all_names, IsName, not_out, outcome_one}
 use Rattle.words.proofs.StepLaws.{Stand, before, inputs, outputs, words_of, names_of, reader_at, Sound, stand_begins, Moves, Agrees, step_agrees, output_read}
 

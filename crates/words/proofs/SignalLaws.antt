@@ -5,7 +5,7 @@ use Rattle.std.proofs.lemmas.List.{map-append, length-append, length-map}
 use Rattle.std.proofs.ByRecursion.{All-append}
 use Rattle.words.specs.Words.{Said, X', G', R', U', F', and', or', not', open', close', in', out', true', false', name', strange', Placed, at, said, place, Words}
 use Rattle.words.specs.Signals.{In, Distinct, listed, Is-signals, Begins, Formed, Fault, strange, misplaced, long, repeated, fifth, Told, Answer, served, refused, Fits, Outcome, store_short, text_long, reads, word_wrong, end_wrong}
-use Rattle.words.specs.WordLaws.{words_one}
+use Rattle.words.proofs.WordLaws.{words_one}
 
 -- ---- members
 

@@ -8,8 +8,9 @@ use Rattle.register.specs.Places.{First}
 use Rattle.words.specs.declared.name.Name.{Name}
 use Rattle.words.specs.Names.{padding, name_of, same_name, HoldsNames, Named}
 use Rattle.words.specs.Signals.{In, Distinct}
-use Rattle.words.specs.PlainLaws.{Plain}
-use Rattle.words.specs.NameLaws.{same_decides, padding_one, room}
+use Rattle.words.proofs.PlainLaws.{Plain}
+use Rattle.words.proofs.NameLaws.{padding_one, room}
+use Rattle.words.specs.Same.{same_decides}
 
 -- names that are the same are equal
 name_equal : (a b : Name) → same_name a b ≡ true → b ≡ a

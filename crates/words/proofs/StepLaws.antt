@@ -14,8 +14,8 @@ use Rattle.words.specs.Words.{Said, X', G', R', U', F', and', or', not', open', 
 use Rattle.words.specs.Names.{padding, name_of, HoldsNames}
 use Rattle.words.specs.Signals.{In, Distinct, listed, Is-signals, Begins, Formed, Fault, strange, misplaced, long, repeated, fifth, Told}
 use Rattle.words.specs.Steps.{Sort, begins, turns, other, called, odd, sort, Step, entered, with_input, with_output, moved, by_stage}
-use Rattle.words.specs.PlainLaws.{Plain}
-use Rattle.words.specs.NameLaws.{Entry, bad, many, new, entry}
+use Rattle.words.proofs.PlainLaws.{Plain}
+use Rattle.words.proofs.NameLaws.{Entry, bad, many, new, entry}
 use Rattle.words.proofs.SignalLaws.{in_left, in_right, in_cases, in_names, in_map, names, names_map, names_listed, distinct_push, not_in, not_out, IsName, GoesIn, formed_first, formed_in, formed_out}
 
 -- ---- where a reader stands: before `in`, behind some inputs, or behind all inputs and some outputs

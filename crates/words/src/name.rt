@@ -2,7 +2,7 @@
 ghost use Rattle.std.specs.Prelude.{◌≡◌, ◌≤◌, length, refl};
 ghost use Rattle.std.proofs.Common.{sym, ◌∙◌};
 ghost use Rattle.words.specs.Names.{padding, name_of, same_name};
-ghost use Rattle.words.specs.NameLaws.{same_decides};
+ghost use Rattle.words.specs.Same.{same_decides};
 
 use register::Same;
 

@@ -6,12 +6,12 @@ use Rattle.words.proofs.reader.run_end.Goals as goal
 
 pub loop-i-preserved : goal.loop-i-preserved
 loop-i-preserved c =
-    let more = prefix_len-drop_yes goes_on c.args.text.now c.loop-i.i 0 c.loop-i-test.true (sym c.goes-on.ensures ∙ c.if-goes-on.true) in
+    let more = prefix_len-drop_yes goes_on c.args.text.now c.loop-i.i 0 c.loop-i-test.true (sym c.goes_on.ensures ∙ c.if-goes_on.true) in
     (omega arith, omega (arith, more, c.loop-i.invariant.1))
 
-pub returns-else-goes-on : goal.returns-else-goes-on
-returns-else-goes-on c =
-    let done = prefix_len-drop_no goes_on c.args.text.now c.loop-i.i 0 c.loop-i-test.true (sym c.goes-on.ensures ∙ c.if-goes-on.false) in
+pub returns-else-goes_on : goal.returns-else-goes_on
+returns-else-goes_on c =
+    let done = prefix_len-drop_no goes_on c.args.text.now c.loop-i.i 0 c.loop-i-test.true (sym c.goes_on.ensures ∙ c.if-goes_on.false) in
     record { end = omega (arith, done, c.loop-i.invariant.1); within = omega arith }
 
 pub returns-after-loop-i : goal.returns-after-loop-i

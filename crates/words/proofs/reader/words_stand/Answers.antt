@@ -1,5 +1,5 @@
 -- A text has one list of words, the computed one.
-use Rattle.words.specs.WordLaws.{words_all, words_one}
+use Rattle.words.proofs.WordLaws.{words_all, words_one}
 use Rattle.words.proofs.reader.words_stand.Goals as goal
 
 pub returns : goal.returns

@@ -15,19 +15,19 @@ returns-then-text-gt1024 c =
     let p = one_answer (length c.args.names.now) c.args.text.now c.args.names.now c.clear.new.names (Err TextTooLong) (refused 1 0) (text_long c.if-names-lt8.false c.if-text-gt1024.true) (refl, refl) ((λ h. absurd (omega arith)), (λ _. c.clear.ensures)) in
     record { outcome = p.outcome; only = p.only }
 
-pub returns-then-is-err : goal.returns-then-is-err
-returns-then-is-err c =
+pub returns-then-is_err : goal.returns-then-is_err
+returns-then-is_err c =
     let room = length c.args.names.now in
     let same : length c.clear.new.names ≡ room = omega (arith, c.clear.auto.names) in
     let fits : Fits room c.args.text.now = record { roomy = c.if-names-lt8.false; short = c.if-text-gt1024.false } in
-    let so = subst (λ n. Read n c.args.text.now c.read-words-read.result c.read-words-read.new.names) same c.read-words-read.ensures in
-    let p = cleared room c.args.text.now c.args.names.now c.clear-then-is-err.new.names fits c.read-words-read.result c.read-words-read.new.names so (sym c.if-is-err.ensures.value) c.clear-then-is-err.ensures in
+    let so = subst (λ n. Read n c.args.text.now c.read_words-read.result c.read_words-read.new.names) same c.read_words-read.ensures in
+    let p = cleared room c.args.text.now c.args.names.now c.clear-then-is_err.new.names fits c.read_words-read.result c.read_words-read.new.names so (sym c.if-is_err.ensures.value) c.clear-then-is_err.ensures in
     record { outcome = p.outcome; only = p.only }
 
-pub returns-else-is-err : goal.returns-else-is-err
-returns-else-is-err c =
+pub returns-else-is_err : goal.returns-else-is_err
+returns-else-is_err c =
     let room = length c.args.names.now in
     let same : length c.clear.new.names ≡ room = omega (arith, c.clear.auto.names) in
-    let so = subst (λ n. Read n c.args.text.now c.read-words-read.result c.read-words-read.new.names) same c.read-words-read.ensures in
-    let p = kept room c.args.text.now c.args.names.now c.read-words-read.new.names c.read-words-read.result so (sym c.if-is-err.ensures.value) in
+    let so = subst (λ n. Read n c.args.text.now c.read_words-read.result c.read_words-read.new.names) same c.read_words-read.ensures in
+    let p = kept room c.args.text.now c.args.names.now c.read_words-read.new.names c.read_words-read.result so (sym c.if-is_err.ensures.value) in
     record { outcome = p.outcome; only = p.only }

@@ -20,11 +20,11 @@ returns c =
     let run = c.args.run.now in
     let used = c.args.signals.inputs + c.args.signals.outputs in
     let known = c.min-known.result in
-    let name = c.in-ok-name.name in
+    let name = c.in_ok-name.name in
     let in-used : known ≤ used = omega (arith, c.min-known.ensures) in
     let in_store : known ≤ length store = omega (arith, c.min-known.ensures) in
     let all : (k : ℕ) → k < used → k < length store → k < known = λ k a b. omega (arith, c.min-known.ensures) in
-    let named = sym c.in-ok-name.ensures in
+    let named = sym c.in_ok-name.ensures in
     let n = name_of_some run name named in
     record {
       value = c.find.ensures.value ∙ ap (found same_name name) (taken_all store used known in-used in_store all) ∙ sym (ap (sought_by store used) named);

@@ -6,7 +6,7 @@ use Rattle.std.specs.Int.Bits.{bit_and, bit_or}
 use Rattle.std.proofs.lemmas.Bool.{cond_both, eqb-true, or_cases, cases_eq, false≢true}
 use Rattle.rules.specs.Rule.{bit}
 use Rattle.rules.specs.Sets.{within, covered, insert, ascending, sifted, trim, unions, Sets, too_wide, sets, fit, join_or, join_and}
-use Rattle.rules.specs.BitLaws.{bit_of_and, bit_of_or, bit_none, bit_own, bit_other}
+use Rattle.rules.proofs.BitLaws.{bit_of_and, bit_of_or, bit_none, bit_own, bit_other}
 
 -- a set fails when one of its duties does: Q says which duties do
 abbrev pub Bad : (ℕ → Type 0) → ℕ → Type 0

@@ -13,9 +13,9 @@ use Rattle.rules.specs.Rule.{Rule, always, never, literal, next, release, both, 
 use Rattle.rules.specs.Sets.{Sets, too_wide, sets, join_or, join_and, members}
 use Rattle.rules.specs.Parts.{part, Falls, is_duty, duty_number, duty_part, WellFormed, rule_from, rule_in, rule_of}
 use Rattle.rules.specs.Progress.{of_true, of_false, own, list_from, list_in, list_of, after_from, after_in, part_after, set_after, list_after, list_after_all}
-use Rattle.rules.specs.BitLaws.{Any, members_any}
-use Rattle.rules.specs.SetLaws.{Bad, AllBad, Says, says_iff, or_says, and_says, true_says, false_says, own_says}
-use Rattle.rules.specs.PartLaws.{rule_stays, duty_found, duty_below, duty_or_none}
+use Rattle.rules.proofs.BitLaws.{Any, members_any}
+use Rattle.rules.proofs.SetLaws.{Bad, AllBad, Says, says_iff, or_says, and_says, true_says, false_says, own_says}
+use Rattle.rules.proofs.PartLaws.{rule_stays, duty_found, duty_below, duty_or_none}
 
 -- a release, one round at a time
 release_to : (a b : Rule) (rs : List Played) (p : ℕ) → Fails (release a b) rs p → Fails b rs p ⊎ (Fails a rs p × Fails (release a b) rs (suc p))

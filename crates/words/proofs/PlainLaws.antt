@@ -4,7 +4,7 @@ use Rattle.std.proofs.Common.{ap, subst}
 use Rattle.std.specs.List.{AllByRecursion as All}
 use Rattle.std.proofs.lemmas.Bool.{both_ways}
 use Rattle.words.specs.Words.{Said, X', G', R', U', F', and', or', not', open', close', in', out', true', false', name', strange', Placed, at, said, kind, goes_on, same, spelled, mark, Run, ends, stops, more, Words, none, gap, one, long, words_from}
-use Rattle.words.specs.WordLaws.{letter_other, from_words}
+use Rattle.words.proofs.WordLaws.{letter_other, from_words}
 
 -- a name has no zero byte
 abbrev pub Plain : List ℕ → Type 0

@@ -1,9 +1,9 @@
 -- Names that are the same are equal, and what a store of names holds once one is entered.
 use Rattle.std.specs.Prelude.{◌≡◌, ℕ, zero, suc, ◌+◌, ◌-◌, ◌<◌, ◌≤◌, Bool, true, false, cond, not, ◌⊎◌, List, [], ◌∷◌, ◌++◌, map, length, take, replicate, Some, None, Ok, Err, Decides, Option, Result, nat_lt, slice_set, refl}
-use Rattle.std.proofs.Common.{sym, ap, ap₂, subst, subst₂, ◌∙◌, append_assoc, inl, inr, arith, rules}
-use Rattle.std.specs.Cmp.Lexicographic.{Matches}
+use Rattle.std.proofs.Common.{sym, ap, ap₂, subst, subst₂, ◌∙◌, append_assoc, inl, inr, arith, eqb}
+use Rattle.std.specs.Cmp.Lexicographic.{pointwise}
 use Rattle.std.specs.List.{AllByRecursion as All}
-use Rattle.std.proofs.lemmas.Slice.Eq.{compares_Decides, slice_eq-Decides}
+use Rattle.std.proofs.lemmas.Slice.Eq.{slice_eq-Decides}
 use Rattle.std.proofs.lemmas.List.{map-append, length-map, length-append, length-replicate, length-set, take_at, set_at}
 use Rattle.std.proofs.lemmas.Bool.{cases_lt, cond-true, cond-false, le-leb, lt-leb, lt-ltb, le-ltb, both_ways}
 use Rattle.std.proofs.lemmas.Bool.Decides.{same_from_decides, Decides-eqb}
@@ -13,17 +13,14 @@ use Rattle.terms.specs.declared.refusal.Refusal.{Refusal}
 use Rattle.terms.specs.declared.refusal.Refusal.TheVariants.{BadName, TooManySignals}
 use Rattle.words.specs.declared.name.Name.{Name}
 use Rattle.words.specs.Words.{same}
+use Rattle.words.specs.Same.{same_decides}
 use Rattle.words.specs.Names.{padding, name_of, same_name, HoldsNames}
 use Rattle.words.specs.Signals.{In}
 use Rattle.words.specs.Steps.{counted, entered}
-use Rattle.words.specs.PlainLaws.{Plain}
-
--- bytes that are the same are equal
-pub same_decides : (xs ys : List ℕ) → Decides (same xs ys) (xs ≡ ys)
-same_decides xs ys = compares_Decides same (search rules) xs ys
+use Rattle.words.proofs.PlainLaws.{Plain}
 
 -- what `==` says of bytes
-pub matched : (xs ys : List ℕ) (r : Bool) → Matches (λ (a b : ℕ) (t : Bool). Decides t (a ≡ b)) xs ys r → r ≡ same xs ys
+pub matched : (xs ys : List ℕ) (r : Bool) → r ≡ pointwise eqb xs ys → r ≡ same xs ys
 matched xs ys r m = same_from_decides r (same xs ys) (slice_eq-Decides Decides-eqb xs ys r m) (same_decides xs ys)
 
 -- zeros behind a name do not hide it

@@ -13,50 +13,14 @@ use Rattle.rules.specs.declared.part.Part.TheVariants.{True, False, Literal, Nex
 use Rattle.rules.specs.Rule.{Rule, always, never, literal, next, release, both, either, Fails}
 use Rattle.rules.specs.Sets.{Sets, sets}
 use Rattle.rules.specs.Parts.{part, Falls, is_duty, duty_number, WellFormed, rule_from, rule_in, rule_of}
+use Rattle.rules.specs.Same.{same_true, same_self}
 use Rattle.rules.specs.Table.{kind, left, right, same_part, place, Entry, enter, parts_on, parts_of}
 use Rattle.rules.specs.Progress.{list_of, list_after_all}
-use Rattle.rules.specs.PartLaws.{rule_same, rule_stays}
-use Rattle.rules.specs.ProgressLaws.{lost_right}
+use Rattle.rules.proofs.PartLaws.{rule_same, rule_stays}
+use Rattle.rules.proofs.ProgressLaws.{lost_right}
 
 abbrev pub Falling : List Part → Type 0
 Falling ps = (k : ℕ) → Falls k (part ps k)
-
--- a part from its three numbers
-told : ℕ → ℕ → ℕ → Part
-told zero l r = True
-told (suc zero) l r = False
-told (suc (suc zero)) l r = Literal (Input l) (r == 1)
-told (suc (suc (suc zero))) l r = Literal (Output l) (r == 1)
-told (suc (suc (suc (suc zero)))) l r = Next l
-told (suc (suc (suc (suc (suc zero))))) l r = Release l r
-told (suc (suc (suc (suc (suc (suc zero)))))) l r = Both l r
-told (suc (suc (suc (suc (suc (suc (suc k))))))) l r = Either l r
-
-told_is : (x : Part) → told (kind x) (left x) (right x) ≡ x
-unfolding told
-told_is True = refl
-told_is False = refl
-told_is (Literal (Input k) true) = refl
-told_is (Literal (Input k) false) = refl
-told_is (Literal (Output k) true) = refl
-told_is (Literal (Output k) false) = refl
-told_is (Next f) = refl
-told_is (Release a b) = refl
-told_is (Both f g) = refl
-told_is (Either f g) = refl
-
--- the same parts are the equal ones
-pub same_true : (x y : Part) → same_part x y ≡ true → x ≡ y
-unfolding same_part
-same_true x y e =
-    let k : kind x ≡ kind y = grind (arith, nat_tests) in
-    let l : left x ≡ left y = grind (arith, nat_tests) in
-    let r : right x ≡ right y = grind (arith, nat_tests) in
-    sym (told_is x) ∙ ap (λ n. told n (left x) (right x)) k ∙ ap (λ n. told (kind y) n (right x)) l ∙ ap (told (kind y) (left y)) r ∙ told_is y
-
-pub same_self : (x : Part) → same_part x x ≡ true
-unfolding same_part
-same_self x = grind (arith, nat_tests)
 
 pub place_most : (ps : List Part) (x : Part) → place ps x ≤ length ps
 unfolding place

@@ -1,10 +1,10 @@
 -- Positions that are the same have equal lists, and the place of a list among positions.
 use Rattle.std.specs.Prelude.{◌≡◌, ℕ, suc, ◌+◌, ◌-◌, ◌<◌, ◌≤◌, Bool, true, false, cond, not, ◌||◌, List, [], ◌∷◌, ◌++◌, map, length, take, replicate, Decides, ◌==◌}
 use Rattle.std.proofs.Math.Path.{refl, sym}
-use Rattle.std.proofs.Common.{ap, ap₂, ◌∙◌, arith, rules}
-use Rattle.std.specs.Cmp.Lexicographic.{Matches}
+use Rattle.std.proofs.Common.{ap, ap₂, ◌∙◌, arith, eqb}
+use Rattle.std.specs.Cmp.Lexicographic.{pointwise}
 use Rattle.std.specs.List.{AllByRecursion as All}
-use Rattle.std.proofs.lemmas.Slice.Eq.{compares_Decides, slice_eq-Decides}
+use Rattle.std.proofs.lemmas.Slice.Eq.{slice_eq-Decides}
 use Rattle.std.proofs.lemmas.List.{length-take-le, take-append-drop}
 use Rattle.std.proofs.lemmas.Bool.{cond-true, cond-false, or_left, or_right, or_from}
 use Rattle.std.proofs.lemmas.Bool.Decides.{same_from_decides, Decides-and, Decides-eqb, Decides-like}
@@ -13,20 +13,12 @@ use Rattle.rules.specs.Explore.{same_list, among}
 use Rattle.rules.specs.Game.{number_from}
 use Rattle.compile.specs.declared.position.Position.{Position}
 use Rattle.compile.specs.Positions.{same_position}
+use Rattle.compile.specs.Same.{same_list_decides, same_position_decides}
 use Rattle.compile.specs.Charting.{list_in, Whole}
 
--- lists that are the same are equal
-pub same_list_decides : (xs ys : List ℕ) → Decides (same_list xs ys) (xs ≡ ys)
-same_list_decides xs ys = compares_Decides same_list (search rules) xs ys
-
 -- what `==` says of sets
-pub matched : (xs ys : List ℕ) (r : Bool) → Matches (λ (a b : ℕ) (t : Bool). Decides t (a ≡ b)) xs ys r → r ≡ same_list xs ys
+pub matched : (xs ys : List ℕ) (r : Bool) → r ≡ pointwise eqb xs ys → r ≡ same_list xs ys
 matched xs ys r m = same_from_decides r (same_list xs ys) (slice_eq-Decides Decides-eqb xs ys r m) (same_list_decides xs ys)
-
--- sameness is that of the lengths and the sets
-pub same_position_decides : (x y : Position) → Decides (same_position x y) ((x.list.len ≡ y.list.len) × (x.list.sets ≡ y.list.sets))
-unfolding same_position
-same_position_decides x y = Decides-and (x.list.len == y.list.len) (same_list x.list.sets y.list.sets) (Decides-eqb x.list.len y.list.len) (same_list_decides x.list.sets y.list.sets)
 
 -- a whole entry has its list, and zeros behind
 list_length : (x : Position) → Whole x → length (list_in x) ≡ x.list.len
