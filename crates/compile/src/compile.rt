@@ -1,7 +1,7 @@
 // Compiling the rule that two texts say.
 ghost use Rattle.std.specs.Prelude.{◌≡◌, ℕ, ◌<◌, ◌≤◌, length, replicate, slice_index_or};
 ghost use Rattle.rules.specs.Parts.{part, Falls, duty_number};
-ghost use Rattle.compile.specs.Positions.{unused as unused-position};
+ghost use Rattle.compile.specs.Positions.{unused as unused_position};
 ghost use Rattle.compile.specs.Compiling.{Builds, Compiles};
 
 use crate::compiled::Compiled;
@@ -25,7 +25,7 @@ const POSITIONS: usize = 255;
 
 // Makes each entry the zero entry.
 fn clear_positions(positions: &mut [Position])
-    ensures { positions.new ≡ replicate (length positions.old) unused-position }
+    ensures { positions.new ≡ replicate (length positions.old) unused_position }
 {
     positions.fill(Position::unused());
 }
@@ -40,7 +40,7 @@ fn build(
 ) -> Result<u8, Refusal>
     requires parts { (length parts.now ≤ 64) × ((((k : ℕ) → Falls k (part parts.now k))) × ((duty_number parts.now (length parts.now) ≤ 32) × (root < length parts.now))) }
     requires signals { (inputs ≤ 4) × (outputs ≤ 4) }
-    requires store { (255 ≤ length positions.old) × (((k : ℕ) → slice_index_or positions.old k unused-position ≡ unused-position)) }
+    requires store { (255 ≤ length positions.old) × (((k : ℕ) → slice_index_or positions.old k unused_position ≡ unused_position)) }
     ensures { Builds inputs outputs parts.now root positions.new result }
 {
     let outline = Outline::of(parts);

@@ -4,7 +4,7 @@ ghost use Rattle.register.specs.Places.{number, kept};
 ghost use Rattle.rules.specs.Progress.{list_of};
 ghost use Rattle.compile.specs.Listed.{items, Tidy};
 ghost use Rattle.compile.specs.Known.{played, Remembers, Outlines, parts_in};
-ghost use Rattle.compile.specs.Positions.{same_position, turn_at as turn-of, unused as unused-position};
+ghost use Rattle.compile.specs.Positions.{same_position, turn_at as turn_of, unused as unused_position};
 ghost use Rattle.compile.specs.Charting.{Stored, Enters, Goes, Charting, Leaves};
 ghost use Rattle.compile.specs.Explored.{Explores};
 
@@ -26,7 +26,7 @@ fn count_of(bits: u8) -> usize
 // The round of a number.
 fn turn_at(t: usize, outputs: u8) -> Turn
     requires { (t < 256) × (outputs ≤ 4) }
-    ensures { played result ≡ turn-of outputs t }
+    ensures { played result ≡ turn_of outputs t }
 {
     let count = count_of(outputs);
     Turn {
@@ -137,7 +137,7 @@ pub(crate) fn explore(
     requires outlined { (Outlines outline.now) × (Remembers (list_of (parts_in outline.now)) lists.old) }
     requires signals { (inputs ≤ 4) × (outputs ≤ 4) }
     requires first { Tidy first }
-    requires store { (255 ≤ length positions.old) × (((k : ℕ) → slice_index_or positions.old k unused-position ≡ unused-position)) }
+    requires store { (255 ≤ length positions.old) × (((k : ℕ) → slice_index_or positions.old k unused_position ≡ unused_position)) }
     ensures { Explores inputs outputs (parts_in outline.now) (items first) positions.new result }
 {
     positions[0] = Position {

@@ -1,7 +1,7 @@
 // "Or" and "and" of lists of duty sets.
 ghost use Rattle.std.specs.Prelude.{◌≡◌, ◌+◌, ◌*◌, ◌<◌, ◌≤◌, [], ◌∷◌, ◌++◌, map, length, take, bit_or};
 ghost use Rattle.rules.specs.Sets.{covered, sifted, trim, unions, fit, sets, join_or, join_and};
-ghost use Rattle.rules.specs.Progress.{of_true, of_false, own as own-list};
+ghost use Rattle.rules.specs.Progress.{of_true, of_false, own as own_list};
 ghost use Rattle.compile.specs.Listed.{items, Tidy, IsList, Gives};
 
 use crate::list::DutyList;
@@ -93,7 +93,7 @@ pub(crate) fn of_false() -> DutyList
 // The list of a duty: its own set alone.
 pub(crate) fn own(duty: u8) -> DutyList
     requires { duty < 32 }
-    ensures { IsList result (own-list duty) }
+    ensures { IsList result (own_list duty) }
 {
     let mut sets = [0; 32];
     sets[0] = 1 << duty;

@@ -2,7 +2,7 @@
 ghost use Rattle.std.specs.Prelude.{◌≡◌, ◌^◌, ◌<◌, ◌≤◌, length, if◌then◌else◌, ◌==◌};
 ghost use Rattle.rules.specs.Rule.{bit, agrees};
 ghost use Rattle.rules.specs.Sets.{Sets, sets, join_or, join_and};
-ghost use Rattle.rules.specs.Progress.{of_true, of_false, own as own-list, list_of, part_after, set_after, list_after};
+ghost use Rattle.rules.specs.Progress.{of_true, of_false, own as own_list, list_of, part_after, set_after, list_after};
 ghost use Rattle.rules.specs.Parts.{duty_part};
 ghost use Rattle.compile.specs.Listed.{items, Tidy, IsList, Gives};
 ghost use Rattle.compile.specs.Known.{played, Knows, Remembers, Outlines, parts_in};
@@ -63,7 +63,7 @@ fn noted(list: Option<DutyList>) -> Known
 // What `a R b` leaves: b after the round, and a after the round or the duty itself.
 fn released(b: &DutyList, a: &DutyList, duty: u8) -> Option<DutyList>
     requires { (Tidy b.now) × ((Tidy a.now) × (duty < 32)) }
-    ensures { Gives result (join_and (sets (items b.now)) (join_or (sets (items a.now)) (own-list duty))) }
+    ensures { Gives result (join_and (sets (items b.now)) (join_or (sets (items a.now)) (own_list duty))) }
 {
     let held = either(a, &own(duty))?;
     both(b, &held)

@@ -14,8 +14,8 @@ pub struct Outline {
 
 impl Outline {
     pub(crate) fn of<G: Game>(game: &G) -> Outline
-        ensures signals { (result.inputs ≡ (meaning game.now).inputs) × (result.outputs ≡ (meaning game.now).outputs) }
-        ensures positions { (result.size ≡ (meaning game.now).size) × (result.start ≡ (meaning game.now).start) }
+        ensures signals { (result.inputs ≡ (G.meaning game.now).inputs) × (result.outputs ≡ (G.meaning game.now).outputs) }
+        ensures positions { (result.size ≡ (G.meaning game.now).size) × (result.start ≡ (G.meaning game.now).start) }
     {
         Outline {
             inputs: game.inputs(),

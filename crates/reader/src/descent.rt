@@ -1,6 +1,6 @@
 // Reading a rule by recursive descent, with its parts entered as they are completed, left side first.
 ghost use Rattle.std.specs.Prelude.{◌≡◌, ℕ, ◌<◌, ◌≤◌, length};
-ghost use Rattle.reader.specs.Grammar.{rule as a-rule, choice as a-choice, join as a-join, unit as a_unit};
+ghost use Rattle.reader.specs.Grammar.{rule as a_rule, choice as a_choice, join as a_join, unit as a_unit};
 ghost use Rattle.reader.specs.Entries.{EntersPart};
 ghost use Rattle.reader.specs.Steps.{text_of, Refuses, Deeper, Comes, LiteralComes, NotComes, CloseComes};
 
@@ -176,7 +176,7 @@ impl Source<'_> {
     #[cycle(choice_join_rule_unit)]
     fn join(&self, parts: &mut [Part], from: Point, depth: u8) -> Result<Found, Refusal>
         requires { (64 ≤ length parts.old) × ((from.used ≤ 65) × (from.at ≤ length (text_of self.now))) }
-        ensures { Comes self.now a-join depth from parts.old parts.new result }
+        ensures { Comes self.now a_join depth from parts.old parts.new result }
     {
         let mut left = self.unit(parts, from, depth)?;
         loop {
@@ -202,7 +202,7 @@ impl Source<'_> {
     #[cycle(choice_join_rule_unit)]
     fn choice(&self, parts: &mut [Part], from: Point, depth: u8) -> Result<Found, Refusal>
         requires { (64 ≤ length parts.old) × ((from.used ≤ 65) × (from.at ≤ length (text_of self.now))) }
-        ensures { Comes self.now a-choice depth from parts.old parts.new result }
+        ensures { Comes self.now a_choice depth from parts.old parts.new result }
     {
         let mut left = self.join(parts, from, depth)?;
         loop {
@@ -228,7 +228,7 @@ impl Source<'_> {
     #[cycle(choice_join_rule_unit)]
     pub(crate) fn rule(&self, parts: &mut [Part], from: Point, depth: u8) -> Result<Found, Refusal>
         requires { (64 ≤ length parts.old) × ((from.used ≤ 65) × (from.at ≤ length (text_of self.now))) }
-        ensures { Comes self.now a-rule depth from parts.old parts.new result }
+        ensures { Comes self.now a_rule depth from parts.old parts.new result }
     {
         let left = self.choice(parts, from, depth)?;
         let t = next_word(self.text, left.behind.at);

@@ -1,7 +1,7 @@
 // Reading the text of a rule into a lent store of parts.
-ghost use Rattle.std.specs.Prelude.{◌≡◌, ℕ, ◌-◌, ◌<◌, ◌≤◌, ◌++◌, length, take, replicate, Err as Err-of};
-ghost use Rattle.terms.specs.declared.refusal.Refusal.TheVariants.{StoreTooShort as store-too-short};
-ghost use Rattle.rules.specs.declared.part.Part.TheVariants.{True as true-part};
+ghost use Rattle.std.specs.Prelude.{◌≡◌, ℕ, ◌-◌, ◌<◌, ◌≤◌, ◌++◌, length, take, replicate, Err as Err_of};
+ghost use Rattle.terms.specs.declared.refusal.Refusal.TheVariants.{StoreTooShort as store_too_short};
+ghost use Rattle.rules.specs.declared.part.Part.TheVariants.{True as true_part};
 ghost use Rattle.rules.specs.Rule.{Rule};
 ghost use Rattle.rules.specs.Parts.{is_duty, duty_number};
 ghost use Rattle.rules.specs.Table.{parts_of};
@@ -64,7 +64,7 @@ fn count_duties(parts: &[Part]) -> u8
 // Makes each entry from `from` on the zero entry.
 pub(crate) fn clear(parts: &mut [Part], from: usize)
     requires { from ≤ length parts.old }
-    ensures { parts.new ≡ take from parts.old ++ replicate (length parts.old - from) true-part }
+    ensures { parts.new ≡ take from parts.old ++ replicate (length parts.old - from) true_part }
 {
     for i in from..parts.len() {
         parts[i] = Part::True;
@@ -73,7 +73,7 @@ pub(crate) fn clear(parts: &mut [Part], from: usize)
 
 // Makes each entry the zero entry.
 pub fn clear_parts(parts: &mut [Part])
-    ensures { parts.new ≡ replicate (length parts.old) true-part }
+    ensures { parts.new ≡ replicate (length parts.old) true_part }
 {
     parts.fill(Part::True);
 }
@@ -132,7 +132,7 @@ pub fn read_rule<'a>(
     outputs: u8,
     parts: &mut [Part],
 ) -> Result<Reading, Refusal>
-    ensures short { length parts.old < 64 → result ≡ Err-of store-too-short }
+    ensures short { length parts.old < 64 → result ≡ Err_of store_too_short }
     ensures kept { length parts.old < 64 → parts.new ≡ parts.old }
     ensures reads { 64 ≤ length parts.old → ReadRule (known names.now inputs outputs) text.now parts.new result }
 {

@@ -31,8 +31,8 @@ loop-t-preserved c =
     let most : c.count_of.result * c.count_of-2.result ≤ 16 * 16 = mul-le-mul c.count_of.ensures.1 c.count_of-2.ensures.1 in
     let count : c.count_of.result * c.count_of-2.result ≡ 2 ^ c.args.inputs * 2 ^ c.args.outputs = ap₂ (λ x y. x * y) c.count_of.ensures.0 c.count_of-2.ensures.0 in
     let used : c.if-n-most.most ≡ max c.loop-t.most n = elim c.if-n-most.branch [
-      | then-n-most w ↦ w.most_is ∙ omega (arith, w.if-n-most.true)
-      | else-n-most w ↦ w.most_is ∙ omega (arith, w.if-n-most.false)
+      | then-n-most w ↦ w.most-is ∙ omega (arith, w.if-n-most.true)
+      | else-n-most w ↦ w.most-is ∙ omega (arith, w.if-n-most.false)
     ] in
     let few : c.loop-t.t < 256 = omega (arith, c.loop-t-test.true) in
     let kept = list_kept turns c.args.outputs ps c.loop-t.most c.args.p c.loop-t.t c.loop-t.positions after n c.loop-t.invariant.0 c.loop-t.invariant.2 few round in (

@@ -51,45 +51,45 @@ expanded-returns-in-Release t c =
       remembered = c.requires.1.1;
     }
 
-pub expanded-returns-in_err-x : goal.expanded-returns-in_err-x
-expanded-returns-in_err-x t c =
+pub expanded-returns-in_err-x-in-Both : goal.expanded-returns-in_err-x-in-Both
+expanded-returns-in_err-x-in-Both t c =
     record {
-      value = given_none _ _ c.from_residual.ensures ((list_at c.args.self.now c.requires.0 c.args.k _ c.in-Both.is) ∙ wide_left join_and and_strict _ _ c.in_err-x.ensures.value);
+      value = given_none _ _ c.from_residual.ensures ((list_at c.args.self.now c.requires.0 c.args.k _ c.in-Both.is) ∙ wide_left join_and and_strict _ _ c.in_err-x-in-Both.ensures.value);
       remembered = c.list_of.ensures.remembered;
     }
 
-pub expanded-returns-in_err-y : goal.expanded-returns-in_err-y
-expanded-returns-in_err-y t c =
+pub expanded-returns-in_err-y-in-Both : goal.expanded-returns-in_err-y-in-Both
+expanded-returns-in_err-y-in-Both t c =
     record {
-      value = given_none _ _ c.from_residual-in_err-y.ensures ((list_at c.args.self.now c.requires.0 c.args.k _ c.in-Both.is) ∙ wide_right join_and and_strict _ _ c.in_ok-x.x c.in_ok-x.ensures.value c.in_err-y.ensures.value);
+      value = given_none _ _ c.from_residual-in_err-y-in-Both.ensures ((list_at c.args.self.now c.requires.0 c.args.k _ c.in-Both.is) ∙ wide_right join_and and_strict _ _ c.in_ok-x-in-Both.x c.in_ok-x-in-Both.ensures.value c.in_err-y-in-Both.ensures.value);
       remembered = c.list_of-in-Both.ensures.remembered;
     }
 
-pub expanded-returns-in_ok-y : goal.expanded-returns-in_ok-y
-expanded-returns-in_ok-y t c =
+pub expanded-returns-in_ok-y-in-Both : goal.expanded-returns-in_ok-y-in-Both
+expanded-returns-in_ok-y-in-Both t c =
     record {
-      value = given _ _ _ (list_at c.args.self.now c.requires.0 c.args.k _ c.in-Both.is) (joined join_and and_strict _ _ c.in_ok-x.x c.in_ok-y.y _ c.in_ok-x.ensures.value c.in_ok-y.ensures.value c.both.ensures);
+      value = given _ _ _ (list_at c.args.self.now c.requires.0 c.args.k _ c.in-Both.is) (joined join_and and_strict _ _ c.in_ok-x-in-Both.x c.in_ok-y-in-Both.y _ c.in_ok-x-in-Both.ensures.value c.in_ok-y-in-Both.ensures.value c.both.ensures);
       remembered = c.list_of-in-Both.ensures.remembered;
     }
 
-pub expanded-returns-in_err-x-2 : goal.expanded-returns-in_err-x-2
-expanded-returns-in_err-x-2 t c =
+pub expanded-returns-in_err-x-in-Either : goal.expanded-returns-in_err-x-in-Either
+expanded-returns-in_err-x-in-Either t c =
     record {
-      value = given_none _ _ c.from_residual-in_err-x-2.ensures ((list_at c.args.self.now c.requires.0 c.args.k _ c.in-Either.is) ∙ wide_left join_or or_strict _ _ c.in_err-x-2.ensures.value);
+      value = given_none _ _ c.from_residual-in_err-x-in-Either.ensures ((list_at c.args.self.now c.requires.0 c.args.k _ c.in-Either.is) ∙ wide_left join_or or_strict _ _ c.in_err-x-in-Either.ensures.value);
       remembered = c.list_of-in-Either.ensures.remembered;
     }
 
-pub expanded-returns-in_err-y-2 : goal.expanded-returns-in_err-y-2
-expanded-returns-in_err-y-2 t c =
+pub expanded-returns-in_err-y-in-Either : goal.expanded-returns-in_err-y-in-Either
+expanded-returns-in_err-y-in-Either t c =
     record {
-      value = given_none _ _ c.from_residual-in_err-y-2.ensures ((list_at c.args.self.now c.requires.0 c.args.k _ c.in-Either.is) ∙ wide_right join_or or_strict _ _ c.in_ok-x-2.x c.in_ok-x-2.ensures.value c.in_err-y-2.ensures.value);
+      value = given_none _ _ c.from_residual-in_err-y-in-Either.ensures ((list_at c.args.self.now c.requires.0 c.args.k _ c.in-Either.is) ∙ wide_right join_or or_strict _ _ c.in_ok-x-in-Either.x c.in_ok-x-in-Either.ensures.value c.in_err-y-in-Either.ensures.value);
       remembered = c.list_of-in-Either-2.ensures.remembered;
     }
 
-pub expanded-returns-in_ok-y-2 : goal.expanded-returns-in_ok-y-2
-expanded-returns-in_ok-y-2 t c =
+pub expanded-returns-in_ok-y-in-Either : goal.expanded-returns-in_ok-y-in-Either
+expanded-returns-in_ok-y-in-Either t c =
     record {
-      value = given _ _ _ (list_at c.args.self.now c.requires.0 c.args.k _ c.in-Either.is) (joined join_or or_strict _ _ c.in_ok-x-2.x c.in_ok-y-2.y _ c.in_ok-x-2.ensures.value c.in_ok-y-2.ensures.value c.either.ensures);
+      value = given _ _ _ (list_at c.args.self.now c.requires.0 c.args.k _ c.in-Either.is) (joined join_or or_strict _ _ c.in_ok-x-in-Either.x c.in_ok-y-in-Either.y _ c.in_ok-x-in-Either.ensures.value c.in_ok-y-in-Either.ensures.value c.either.ensures);
       remembered = c.list_of-in-Either-2.ensures.remembered;
     }
 

@@ -7,7 +7,7 @@ use Rattle.compile.proofs.ExpandLaws.{after_at, duty_fits, remembers_more}
 use Rattle.compile.proofs.outline.Outline.+part_after_progressed.Goals as goal
 
 pub progressed-released-requires : goal.progressed-released-requires
-progressed-released-requires t c = (c.in_ok-y.ensures.value.tidy, (c.in_ok-x.ensures.value.tidy, duty_fits c.args.self.now c.requires.outlined.0 c.args.k _ c.in-Release.is c.requires.outlined.1 refl))
+progressed-released-requires t c = (c.in_ok-y-in-Release.ensures.value.tidy, (c.in_ok-x-in-Release.ensures.value.tidy, duty_fits c.args.self.now c.requires.outlined.0 c.args.k _ c.in-Release.is c.requires.outlined.1 refl))
 
 pub progressed-returns-in-True : goal.progressed-returns-in-True
 progressed-returns-in-True t c =
@@ -41,74 +41,74 @@ progressed-returns-in-Next t c =
       afters = c.requires.remembers.1;
     }
 
-pub progressed-returns-in_err-y : goal.progressed-returns-in_err-y
-progressed-returns-in_err-y t c =
+pub progressed-returns-in_err-y-in-Release : goal.progressed-returns-in_err-y-in-Release
+progressed-returns-in_err-y-in-Release t c =
     record {
-      value = given_none _ _ c.from_residual.ensures ((after_at c.args.self.now c.requires.outlined.0 c.args.k _ c.in-Release.is (played c.args.turn)) ∙ wide_left join_and and_strict _ _ c.in_err-y.ensures.value);
+      value = given_none _ _ c.from_residual.ensures ((after_at c.args.self.now c.requires.outlined.0 c.args.k _ c.in-Release.is (played c.args.turn)) ∙ wide_left join_and and_strict _ _ c.in_err-y-in-Release.ensures.value);
       lists = c.part_after.ensures.lists;
       afters = c.part_after.ensures.afters;
     }
 
-pub progressed-returns-in_err-x : goal.progressed-returns-in_err-x
-progressed-returns-in_err-x t c =
+pub progressed-returns-in_err-x-in-Release : goal.progressed-returns-in_err-x-in-Release
+progressed-returns-in_err-x-in-Release t c =
     record {
-      value = given_none _ _ c.from_residual-in_err-x.ensures ((after_at c.args.self.now c.requires.outlined.0 c.args.k _ c.in-Release.is (played c.args.turn)) ∙ wide_right join_and and_strict _ _ c.in_ok-y.y c.in_ok-y.ensures.value (wide_left join_or or_strict _ _ c.in_err-x.ensures.value));
+      value = given_none _ _ c.from_residual-in_err-x-in-Release.ensures ((after_at c.args.self.now c.requires.outlined.0 c.args.k _ c.in-Release.is (played c.args.turn)) ∙ wide_right join_and and_strict _ _ c.in_ok-y-in-Release.y c.in_ok-y-in-Release.ensures.value (wide_left join_or or_strict _ _ c.in_err-x-in-Release.ensures.value));
       lists = c.part_after-in-Release.ensures.lists;
       afters = c.part_after-in-Release.ensures.afters;
     }
 
-pub progressed-returns-in_ok-x : goal.progressed-returns-in_ok-x
-progressed-returns-in_ok-x t c =
+pub progressed-returns-in_ok-x-in-Release : goal.progressed-returns-in_ok-x-in-Release
+progressed-returns-in_ok-x-in-Release t c =
     record {
-      value = given _ _ _ ((after_at c.args.self.now c.requires.outlined.0 c.args.k _ c.in-Release.is (played c.args.turn)) ∙ (λ i. join_and (c.in_ok-y.ensures.value.is i) (join_or (c.in_ok-x.ensures.value.is i) (own (sym (c.requires.outlined.0.numbers c.args.k c.requires.outlined.1) i))))) c.released.ensures;
+      value = given _ _ _ ((after_at c.args.self.now c.requires.outlined.0 c.args.k _ c.in-Release.is (played c.args.turn)) ∙ (λ i. join_and (c.in_ok-y-in-Release.ensures.value.is i) (join_or (c.in_ok-x-in-Release.ensures.value.is i) (own (sym (c.requires.outlined.0.numbers c.args.k c.requires.outlined.1) i))))) c.released.ensures;
       lists = c.part_after-in-Release.ensures.lists;
       afters = c.part_after-in-Release.ensures.afters;
     }
 
-pub progressed-returns-in_err-x-2 : goal.progressed-returns-in_err-x-2
-progressed-returns-in_err-x-2 t c =
+pub progressed-returns-in_err-x-in-Both : goal.progressed-returns-in_err-x-in-Both
+progressed-returns-in_err-x-in-Both t c =
     record {
-      value = given_none _ _ c.from_residual-in_err-x-2.ensures ((after_at c.args.self.now c.requires.outlined.0 c.args.k _ c.in-Both.is (played c.args.turn)) ∙ wide_left join_and and_strict _ _ c.in_err-x-2.ensures.value);
+      value = given_none _ _ c.from_residual-in_err-x-in-Both.ensures ((after_at c.args.self.now c.requires.outlined.0 c.args.k _ c.in-Both.is (played c.args.turn)) ∙ wide_left join_and and_strict _ _ c.in_err-x-in-Both.ensures.value);
       lists = c.part_after-in-Both.ensures.lists;
       afters = c.part_after-in-Both.ensures.afters;
     }
 
-pub progressed-returns-in_err-y-2 : goal.progressed-returns-in_err-y-2
-progressed-returns-in_err-y-2 t c =
+pub progressed-returns-in_err-y-in-Both : goal.progressed-returns-in_err-y-in-Both
+progressed-returns-in_err-y-in-Both t c =
     record {
-      value = given_none _ _ c.from_residual-in_err-y-2.ensures ((after_at c.args.self.now c.requires.outlined.0 c.args.k _ c.in-Both.is (played c.args.turn)) ∙ wide_right join_and and_strict _ _ c.in_ok-x-2.x c.in_ok-x-2.ensures.value c.in_err-y-2.ensures.value);
+      value = given_none _ _ c.from_residual-in_err-y-in-Both.ensures ((after_at c.args.self.now c.requires.outlined.0 c.args.k _ c.in-Both.is (played c.args.turn)) ∙ wide_right join_and and_strict _ _ c.in_ok-x-in-Both.x c.in_ok-x-in-Both.ensures.value c.in_err-y-in-Both.ensures.value);
       lists = c.part_after-in-Both-2.ensures.lists;
       afters = c.part_after-in-Both-2.ensures.afters;
     }
 
-pub progressed-returns-in_ok-y-2 : goal.progressed-returns-in_ok-y-2
-progressed-returns-in_ok-y-2 t c =
+pub progressed-returns-in_ok-y-in-Both : goal.progressed-returns-in_ok-y-in-Both
+progressed-returns-in_ok-y-in-Both t c =
     record {
-      value = given _ _ _ (after_at c.args.self.now c.requires.outlined.0 c.args.k _ c.in-Both.is (played c.args.turn)) (joined join_and and_strict _ _ c.in_ok-x-2.x c.in_ok-y-2.y _ c.in_ok-x-2.ensures.value c.in_ok-y-2.ensures.value c.both.ensures);
+      value = given _ _ _ (after_at c.args.self.now c.requires.outlined.0 c.args.k _ c.in-Both.is (played c.args.turn)) (joined join_and and_strict _ _ c.in_ok-x-in-Both.x c.in_ok-y-in-Both.y _ c.in_ok-x-in-Both.ensures.value c.in_ok-y-in-Both.ensures.value c.both.ensures);
       lists = c.part_after-in-Both-2.ensures.lists;
       afters = c.part_after-in-Both-2.ensures.afters;
     }
 
-pub progressed-returns-in_err-x-3 : goal.progressed-returns-in_err-x-3
-progressed-returns-in_err-x-3 t c =
+pub progressed-returns-in_err-x-in-Either : goal.progressed-returns-in_err-x-in-Either
+progressed-returns-in_err-x-in-Either t c =
     record {
-      value = given_none _ _ c.from_residual-in_err-x-3.ensures ((after_at c.args.self.now c.requires.outlined.0 c.args.k _ c.in-Either.is (played c.args.turn)) ∙ wide_left join_or or_strict _ _ c.in_err-x-3.ensures.value);
+      value = given_none _ _ c.from_residual-in_err-x-in-Either.ensures ((after_at c.args.self.now c.requires.outlined.0 c.args.k _ c.in-Either.is (played c.args.turn)) ∙ wide_left join_or or_strict _ _ c.in_err-x-in-Either.ensures.value);
       lists = c.part_after-in-Either.ensures.lists;
       afters = c.part_after-in-Either.ensures.afters;
     }
 
-pub progressed-returns-in_err-y-3 : goal.progressed-returns-in_err-y-3
-progressed-returns-in_err-y-3 t c =
+pub progressed-returns-in_err-y-in-Either : goal.progressed-returns-in_err-y-in-Either
+progressed-returns-in_err-y-in-Either t c =
     record {
-      value = given_none _ _ c.from_residual-in_err-y-3.ensures ((after_at c.args.self.now c.requires.outlined.0 c.args.k _ c.in-Either.is (played c.args.turn)) ∙ wide_right join_or or_strict _ _ c.in_ok-x-3.x c.in_ok-x-3.ensures.value c.in_err-y-3.ensures.value);
+      value = given_none _ _ c.from_residual-in_err-y-in-Either.ensures ((after_at c.args.self.now c.requires.outlined.0 c.args.k _ c.in-Either.is (played c.args.turn)) ∙ wide_right join_or or_strict _ _ c.in_ok-x-in-Either.x c.in_ok-x-in-Either.ensures.value c.in_err-y-in-Either.ensures.value);
       lists = c.part_after-in-Either-2.ensures.lists;
       afters = c.part_after-in-Either-2.ensures.afters;
     }
 
-pub progressed-returns-in_ok-y-3 : goal.progressed-returns-in_ok-y-3
-progressed-returns-in_ok-y-3 t c =
+pub progressed-returns-in_ok-y-in-Either : goal.progressed-returns-in_ok-y-in-Either
+progressed-returns-in_ok-y-in-Either t c =
     record {
-      value = given _ _ _ (after_at c.args.self.now c.requires.outlined.0 c.args.k _ c.in-Either.is (played c.args.turn)) (joined join_or or_strict _ _ c.in_ok-x-3.x c.in_ok-y-3.y _ c.in_ok-x-3.ensures.value c.in_ok-y-3.ensures.value c.either.ensures);
+      value = given _ _ _ (after_at c.args.self.now c.requires.outlined.0 c.args.k _ c.in-Either.is (played c.args.turn)) (joined join_or or_strict _ _ c.in_ok-x-in-Either.x c.in_ok-y-in-Either.y _ c.in_ok-x-in-Either.ensures.value c.in_ok-y-in-Either.ensures.value c.either.ensures);
       lists = c.part_after-in-Either-2.ensures.lists;
       afters = c.part_after-in-Either-2.ensures.afters;
     }
