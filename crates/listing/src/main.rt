@@ -1,8 +1,12 @@
 // The program once more, for the gate: the parts of a rule.
 #![tactic(auto)]
 
-use console::command::{Failed, main_of};
+use console::command::main_of;
+use std::process::ExitCode;
 
-fn main(rt: HostRuntime) -> Result<(), Failed> {
-    main_of(&rt)
+fn main(rt: HostRuntime) -> ExitCode {
+    match main_of(&rt) {
+        Ok(()) => ExitCode::SUCCESS,
+        Err(_) => ExitCode::FAILURE,
+    }
 }

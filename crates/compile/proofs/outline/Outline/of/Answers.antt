@@ -12,7 +12,7 @@ pub bounds-owners-next : goal.bounds-owners-next
 bounds-owners-next c =
     let ps = c.args.parts.now in
     let k = c.loop-k.k in
-    omega (arith, duty_below ps k (sym c.if-is_duty.ensures), c.loop-k.invariant.next-is, c.requires.1.1)
+    omega (arith, duty_below ps k (sym c.if-is_duty.ensures), c.loop-k.invariant.next_is, c.requires.1.1)
 
 pub loop-k-preserved : goal.loop-k-preserved
 loop-k-preserved c =
@@ -22,7 +22,7 @@ loop-k-preserved c =
     elim c.if-is_duty.branch [
       | then-is_duty w ↦
           let duty = sym w.if-is_duty.ensures in
-          let low : c.loop-k.next < 32 = omega (arith, duty_below ps k duty, c.loop-k.invariant.next-is, c.requires.1.1) in
+          let low : c.loop-k.next < 32 = omega (arith, duty_below ps k duty, c.loop-k.invariant.next_is, c.requires.1.1) in
           let more = numbered_duty ps k _ _ _ c.loop-k.invariant c.loop-k-test.true c.requires.0 duty low in
           subst (λ o. Numbered ps (k + 1) numbers o c.if-is_duty.next) (sym w.owners-is) (subst (λ n. Numbered ps (k + 1) numbers (set c.loop-k.owners c.loop-k.next k) n) (sym w.next-is) more)
       | else-is_duty w ↦
