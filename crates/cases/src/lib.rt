@@ -175,7 +175,7 @@ mod tests {
         assert_eq!(rt; length, 6128);
         for p in 1..256usize {
             let record = store.as_slice().get(24 * p - 16..24 * p - 8).unwrap_or(&[]);
-            assert_eq!(rt; record, &[2, 0, 0, 0, 0, 255 - p as u8, 0, 0]);
+            assert_eq!(rt; record, [2, 0, 0, 0, 0, 255 - p as u8, 0, 0].as_slice());
         }
         Ok(())
     }
