@@ -14,7 +14,7 @@ import sys
 
 NAME = r"[^\s(){}\[\].,;:«»\"|\\@]+"
 TOKEN = re.compile(NAME)
-DECL = re.compile(r"^(\s*)((?:(?:pattern|unfoldable|abbrev|pub|axiom|data|record)\s+)*)(" + NAME + r")((?:\s*\{[^}]*\}|\s*\([^)]*\))*)\s*:(?!:)\s*(.*)$")
+DECL = re.compile(r"^(\s*)((?:(?:pattern|unfoldable|abbrev|pub|axiom|data|record)\s+)*)(" + NAME + r")((?:\s*[({].*?[)}])?)\s*:(?!:)\s*(.*)$")
 # names that would fall together with a word of the kit's library
 APART = {"bit-and": "bit_of_and", "bit-or": "bit_of_or"}
 WORDS = {"use", "let", "module", "in", "where", "unfolding", "mod", "elim", "import"}

@@ -1,12 +1,12 @@
 -- Each position has exactly one count.
-use Rattle.std.proofs.Common.{◌≡◌, ℕ, zero, suc, ◌<◌, ◌≤◌, refl, ap, inl, inr, arith}
+use Rattle.std.proofs.Common.{◌≡◌, ℕ, zero, suc, ◌≤◌, refl, ap, inl, inr, arith}
 use Rattle.std.proofs.lemmas.Bool.{cases_Bool, cases_lt}
 use Rattle.std.proofs.lemmas.Bool.Decides.{not_from_Decides}
 use Rattle.terms.specs.declared.count.Count.{Count}
 use Rattle.terms.specs.declared.count.Count.TheVariants.{Lost, Limited, Unlimited}
 use Rattle.arena.specs.Arena.{Arena}
 use Rattle.arena.specs.Held.{Held, Settled}
-use Rattle.terms.specs.Order.{AtMost, Below, plus}
+use Rattle.terms.specs.Order.{AtMost, plus}
 use Rattle.arena.specs.Count.{Counts}
 use Rattle.arena.proofs.HeldLaws.{held, held_decides, held_place, held_down, settled_stays}
 use Rattle.arena.proofs.SettleLaws.{settles}

@@ -1,5 +1,5 @@
 -- What is held: it can be decided, it shrinks with the rounds, and once nothing is dropped nothing ever is.
-use Rattle.std.proofs.Common.{◌≡◌, ℕ, zero, suc, ◌+◌, ◌^◌, ◌<◌, ◌≤◌, Bool, true, false, ◌&&◌, ◌||◌, leb, Decides, refl, suc-add, zero-add, arith}
+use Rattle.std.proofs.Common.{ℕ, zero, suc, ◌+◌, ◌^◌, ◌≤◌, Bool, true, false, ◌&&◌, ◌||◌, leb, Decides, refl, suc-add, zero-add, arith}
 use native.Mathlib.Decide.{le_ind}
 use Rattle.std.proofs.lemmas.Bool.Decides.{nat_tests, Decides-and, Decides-below_and, Decides-below_or}
 use Rattle.arena.specs.Arena.{Arena, Place}

@@ -1,5 +1,5 @@
 -- A pair of sound arenas is sound.
-use Rattle.std.proofs.Common.{◌≡◌, ℕ, ◌+◌, ◌-◌, ◌*◌, ◌/◌, ◌%◌, ◌^◌, ◌<◌, ◌≤◌, max, true, false, cond, ◌⊎◌, refl, inl, inr, mul-le-mul_right, mod-lt, div-lt_iff_lt-mul, add-mul, one-mul, mul-zero, zero-mul, arith, pow_mono}
+use Rattle.std.proofs.Common.{◌≡◌, ℕ, ◌+◌, ◌-◌, ◌*◌, ◌≤◌, max, false, refl, inl, inr, mul-le-mul_right, add-mul, one-mul, mul-zero, zero-mul, arith}
 use Rattle.std.proofs.lemmas.Bool.Decides.{nat_tests}
 use Rattle.arena.specs.Arena.{Arena, Sound, beyond}
 use Rattle.arena.specs.Pair.{pair, joint, product, both}

@@ -1,14 +1,12 @@
 -- Over every row of calls, following the book loses at most one a round, and spoiling it at least one.
-use Rattle.std.proofs.Common.{◌≡◌, ℕ, zero, suc, ◌+◌, ◌^◌, ◌<◌, ◌≤◌, eqb, ltb, List, [], ◌∷◌, ◌++◌, length, Some, sym, refl, ap, subst, inl, inr, add-one, arith}
-use Rattle.std.proofs.lemmas.Bool.{cases_eq, cond_both, eqb-false, ltb-true}
-use Rattle.terms.specs.declared.count.Count.{Count}
-use Rattle.terms.specs.declared.count.Count.TheVariants.{Lost, Limited, Unlimited}
+use Rattle.std.proofs.Common.{◌≡◌, ℕ, suc, ◌+◌, ◌^◌, ◌<◌, ◌≤◌, eqb, ltb, List, [], ◌∷◌, ◌++◌, length, sym, refl, subst, arith}
+use Rattle.std.proofs.lemmas.Bool.{cond_both, ltb-true}
 use Rattle.terms.specs.declared.call.Call.{Call}
 use Rattle.terms.specs.declared.call.Call.TheVariants.{Open, Set, Close, Abandon, AskPosition, AskCount, AskSpoiling}
-use Rattle.arena.specs.Arena.{Arena, Place, Sound}
+use Rattle.arena.specs.Arena.{Arena, Sound}
 use Rattle.terms.specs.Order.{AtMost, plus}
 use Rattle.arena.specs.Values.{Values}
-use Rattle.arena.specs.Tally.{Played, Tally, between, during, closed, leads, place, opened, after, tallied, tally}
+use Rattle.arena.specs.Tally.{Played, Tally, between, during, closed, leads, after, tallied, tally}
 use Rattle.arena.specs.Rows.{Following, Spoiled, LosesAtMost, LosesAtLeast}
 use Rattle.terms.proofs.OrderLaws.{at_most_refl, at_most_trans, plus_none, plus_plus, plus_at_most}
 use Rattle.arena.proofs.ValueLaws.{answer_costs, spoils_costs}

@@ -1,9 +1,9 @@
 -- One of the first size + 1 sweeps drops no position.
-use Rattle.std.proofs.Common.{◌≡◌, ℕ, zero, suc, ◌+◌, ◌<◌, ◌≤◌, Bool, true, false, cond, ◌⊎◌, sym, refl, ◌∙◌, inl, inr, arith}
-use Rattle.std.proofs.lemmas.Bool.{cases_Bool, cases_eq, cases_lt}
+use Rattle.std.proofs.Common.{◌≡◌, ℕ, zero, suc, ◌+◌, ◌<◌, ◌≤◌, Bool, true, false, cond, ◌⊎◌, refl, inl, inr, arith}
+use Rattle.std.proofs.lemmas.Bool.{cases_eq, cases_lt}
 use Rattle.std.proofs.lemmas.Bool.Decides.{nat_tests}
 use Rattle.arena.specs.Arena.{Arena, Sound}
-use Rattle.arena.specs.Held.{Held, Settled, InTime}
+use Rattle.arena.specs.Held.{Settled, InTime}
 use Rattle.arena.proofs.HeldLaws.{held, held_decides, held_less, held_place}
 
 -- for how many numbers below n the test passes

@@ -1,5 +1,5 @@
 -- A game has values, and only one set of them; what a round costs.
-use Rattle.std.proofs.Common.{◌≡◌, ℕ, zero, suc, ◌+◌, ◌-◌, ◌^◌, ◌<◌, ◌≤◌, Some, None, Option, sym, refl, ap, ◌∙◌, subst, inl, inr, arith, pow_pos}
+use Rattle.std.proofs.Common.{◌≡◌, ℕ, zero, suc, ◌+◌, ◌-◌, ◌^◌, ◌<◌, Some, None, Option, sym, refl, ap, ◌∙◌, subst, inl, inr, arith, pow_pos}
 use mathlib.Core.Path.{fun_ext}
 use Rattle.terms.specs.declared.count.Count.{Count}
 use Rattle.terms.specs.declared.count.Count.TheVariants.{Lost, Limited, Unlimited}
@@ -12,7 +12,7 @@ use Rattle.arena.specs.Values.{Spoils, Values}
 use Rattle.arena.proofs.HeldLaws.{held_place}
 use Rattle.terms.proofs.BestLaws.{reversed, some_best, best_once, best_same}
 use Rattle.terms.proofs.OrderLaws.{count_order, plus_at_most}
-use Rattle.arena.proofs.CountLaws.{held_counts, counts_held, always_counts, at_most_held, unheld_counts, counts_once, counted}
+use Rattle.arena.proofs.CountLaws.{held_counts, always_counts, at_most_held, unheld_counts, counts_once, counted}
 
 -- ---- they exist
 

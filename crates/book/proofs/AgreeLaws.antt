@@ -5,7 +5,7 @@ use Rattle.terms.specs.declared.count.Count.{Count}
 use Rattle.terms.specs.declared.count.Count.TheVariants.{Lost, Limited, Unlimited}
 use Rattle.arena.specs.Arena.{Arena, Place}
 use Rattle.arena.specs.Held.{Held}
-use Rattle.terms.specs.Order.{AtMost, plus, Most, Least}
+use Rattle.terms.specs.Order.{AtMost, plus, Most}
 use Rattle.arena.specs.Count.{Counts}
 use Rattle.arena.specs.Values.{Spoils}
 use Rattle.terms.proofs.OrderLaws.{at_most_trans}

@@ -1,5 +1,5 @@
 -- The pick of an output and of an input: by ranks it is the pick by counts.
-use Rattle.std.proofs.Common.{◌≡◌, ℕ, zero, suc, ◌<◌, ◌≤◌, max, List, get_or, inl, inr, arith}
+use Rattle.std.proofs.Common.{◌≡◌, ℕ, zero, suc, ◌<◌, ◌≤◌, List, get_or, inl, inr, arith}
 use Rattle.std.proofs.lemmas.Bool.{cases_eq, cases_lt}
 use Rattle.arena.specs.Arena.{Arena}
 use Rattle.terms.specs.Order.{AtMost, Most, Least}

@@ -1,13 +1,12 @@
 -- The ranks that the solver keeps.
-use Rattle.std.proofs.Common.{◌≡◌, ℕ, zero, suc, ◌+◌, ◌-◌, ◌^◌, ◌<◌, ◌≤◌, max, Bool, true, false, cond, leb, ◌≢◌, ◌⊎◌, List, [], ◌∷◌, ◌++◌, length, get_or, set, Decides, sym, refl, ap, ◌∙◌, subst, inl, inr, arith, get_or-set_other, get_or-set_same}
-use Rattle.std.proofs.lemmas.Bool.{cases_Bool, cases_eq, cases_lt, leb-true, leb-false, le-leb, lt-leb}
-use Rattle.std.proofs.lemmas.Bool.Decides.{nat_tests}
-use Rattle.terms.specs.declared.count.Count.TheVariants.{Lost, Limited, Unlimited}
+use Rattle.std.proofs.Common.{◌≡◌, ℕ, zero, suc, ◌+◌, ◌-◌, ◌<◌, ◌≤◌, leb, ◌≢◌, List, length, get_or, set, ap, ◌∙◌, inl, inr, arith, get_or-set_other, get_or-set_same}
+use Rattle.std.proofs.lemmas.Bool.{cases_Bool, cases_eq, cases_lt, le-leb, lt-leb}
+use Rattle.terms.specs.declared.count.Count.TheVariants.{Limited, Unlimited}
 use Rattle.arena.specs.Arena.{Arena, Place}
 use Rattle.arena.specs.Held.{Held, Keeps, Settled}
 use Rattle.terms.specs.Order.{AtMost, Below}
 use Rattle.arena.specs.Count.{Counts}
-use Rattle.arena.proofs.HeldLaws.{held_place, held_less, held_down, settled_stays}
+use Rattle.arena.proofs.HeldLaws.{held_place, held_down, settled_stays}
 use Rattle.book.specs.Ranks.{Tells, Ranks, Amid, Over, count_of, Ready}
 
 -- ---- the start

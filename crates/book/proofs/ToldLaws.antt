@@ -1,23 +1,23 @@
 -- What the bytes of the game's book tell, and that they are its book exactly when they agree with the moves.
-use Rattle.std.proofs.Common.{◌≡◌, ℕ, ◌+◌, ◌-◌, ◌*◌, ◌/◌, ◌%◌, ◌^◌, ◌<◌, ◌≤◌, Bool, true, false, cond, ◌&&◌, eqb, leb, ◌↔◌, List, [], ◌∷◌, ◌++◌, length, get_or, take, drop, Some, None, Option, sym, refl, ap, ◌∙◌, subst, inl, inr, arith, take-add, pow_mono}
+use Rattle.std.proofs.Common.{◌≡◌, ℕ, ◌+◌, ◌-◌, ◌*◌, ◌/◌, ◌%◌, ◌^◌, ◌<◌, ◌≤◌, Bool, true, false, cond, ◌&&◌, eqb, leb, ◌↔◌, List, ◌++◌, length, get_or, take, drop, Some, None, Option, sym, refl, ap, ◌∙◌, subst, inl, inr, arith, take-add, pow_mono}
 use mathlib.Core.Path.{fun_ext}
 use native.Mathlib.Nat.{div-add-mod}
-use Rattle.std.proofs.lemmas.List.{get_or-take, get_or-drop, get_or_past, length-take-le, length-drop, take-take, take_at, get_or-append-add}
+use Rattle.std.proofs.lemmas.List.{get_or-take, get_or-drop, get_or_past, length-take-le, length-drop, take-take, get_or-append-add}
 use Rattle.std.proofs.lemmas.Bool.{cases_eq, cases_lt, ne_eqb, le-leb, and_from, cond-true, cond-false}
 use Rattle.std.proofs.lemmas.Bool.Decides.{nat_tests}
 use Rattle.terms.specs.declared.count.Count.{Count}
 use Rattle.terms.specs.declared.count.Count.TheVariants.{Lost, Limited, Unlimited}
 use Rattle.arena.specs.Arena.{Arena, Place, Sound}
-use Rattle.terms.specs.Order.{AtMost, plus, Most, Least}
+use Rattle.terms.specs.Order.{AtMost, plus, Most}
 use Rattle.arena.specs.Count.{Counts}
 use Rattle.arena.specs.Values.{Spoils, Values}
-use Rattle.arena.specs.Book.{status, rounds, input_byte, front, AnswerBytes, Entry, header, entry_at, book_length, Book, IsBook}
+use Rattle.arena.specs.Book.{status, rounds, input_byte, front, entry_at, Book, IsBook}
 use Rattle.terms.proofs.OrderLaws.{at_most_antisym}
 use Rattle.arena.proofs.CountLaws.{counts_once}
 use Rattle.arena.proofs.ValueLaws.{answer_costs, spoils_costs}
 use Rattle.terms.proofs.BestLaws.{best_same}
 use Rattle.book.specs.Told.{flag_told, count_told, spoiling_told, answer_told, count_in}
-use Rattle.book.specs.Agreeing.{Follows, AgreesAt, Agrees}
+use Rattle.book.specs.Agreeing.{Follows, Agrees}
 use Rattle.book.proofs.AgreeLaws.{true_counts, true_spoils}
 
 -- ---- from agreement

@@ -1,12 +1,11 @@
 -- How a book is written.
-use Rattle.std.proofs.Common.{◌≡◌, ℕ, zero, suc, ◌+◌, ◌-◌, ◌*◌, ◌^◌, ◌<◌, ◌≤◌, List, [], ◌∷◌, ◌++◌, length, get_or, take, drop, set, Some, None, Option, sym, refl, ap, ◌∙◌, subst, inl, inr, arith, get_or-set_other, get_or-set_same, pow_mono}
+use Rattle.std.proofs.Common.{◌≡◌, ℕ, ◌+◌, ◌^◌, ◌<◌, ◌≤◌, List, ◌++◌, length, get_or, take, drop, set, Some, sym, refl, ap, ◌∙◌, subst, inl, inr, arith, get_or-set_other, get_or-set_same, pow_mono}
 use mathlib.Core.Path.{fun_ext}
 use borrow.Rule.Slice.PartMut.{put_mid}
-use Rattle.std.proofs.lemmas.List.{get_or_past, take_all, drop-take, take-take, length-take-le, length-drop, length-append, append-nil, drop_all, take_at, drop_at}
+use Rattle.std.proofs.lemmas.List.{get_or_past, drop-take, take-take, length-take-le, length-drop, length-append, append-nil, drop_all, take_at, drop_at}
 use Rattle.std.proofs.lemmas.Slice.{take-put_mid_below, take-put_mid, drop-put_mid}
 use Rattle.std.proofs.lemmas.Bool.{cases_eq, cases_lt}
-use Rattle.terms.specs.declared.count.Count.{Count}
-use Rattle.terms.specs.declared.count.Count.TheVariants.{Lost, Limited, Unlimited}
+use Rattle.terms.specs.declared.count.Count.TheVariants.{Limited, Unlimited}
 use Rattle.arena.specs.Arena.{Arena, Place, Sound}
 use Rattle.terms.specs.Order.{Most, Least}
 use Rattle.arena.specs.Count.{Counts}
@@ -15,7 +14,6 @@ use Rattle.arena.specs.Book.{front, input_byte, AnswerBytes, Entry, header, entr
 use Rattle.arena.proofs.CountLaws.{counts_once}
 use Rattle.terms.proofs.BestLaws.{best_once, best_same}
 use Rattle.book.specs.Ranks.{count_of, counts_of, Ready, rank_by, Highest, Lowest, worth, Filled, Written}
-use Rattle.book.proofs.RankLaws.{count_top, count_under}
 use Rattle.book.proofs.PickLaws.{highest_greatest, most_from, most_to, least_from}
 
 -- ---- the values, by ranks

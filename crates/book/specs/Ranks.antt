@@ -1,7 +1,7 @@
 -- What the solver keeps: a rank for each position, one more than its count so far, and 0 for lost.
 -- Tells, Ranks, Amid: ranks in the course of the sweeps. Ready: when these are over. Highest, Lowest: the pick of an
 -- output and of an input. Filled, Written: a book in the course of writing.
-use Rattle.std.specs.Prelude.{◌≡◌, ℕ, zero, suc, ◌+◌, ◌*◌, ◌^◌, ◌<◌, ◌≤◌, max, cond, List, length, take, drop, nat_le, slice_index}
+use Rattle.std.specs.Prelude.{◌≡◌, ℕ, zero, suc, ◌^◌, ◌<◌, ◌≤◌, max, cond, List, length, take, drop, nat_le, slice_index}
 use Rattle.terms.specs.declared.count.Count.{Count}
 use Rattle.terms.specs.declared.count.Count.TheVariants.{Lost, Limited, Unlimited}
 use Rattle.arena.specs.Arena.{Arena}

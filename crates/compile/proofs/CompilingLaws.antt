@@ -1,37 +1,34 @@
 -- From what two texts say to what compiling them comes to.
-use Rattle.std.proofs.Common.{◌≡◌, ℕ, ◌-◌, ◌<◌, ◌≤◌, Bool, true, false, ◌&&◌, leb, ◌↔◌, List, [], ◌∷◌, ◌++◌, length, take, replicate, Some, Ok, Err, Result, sym, refl, ap, ◌∙◌, subst, ap₂, arith}
+use Rattle.std.proofs.Common.{◌≡◌, ℕ, ◌-◌, ◌<◌, ◌≤◌, Bool, true, false, leb, ◌↔◌, List, [], ◌∷◌, ◌++◌, length, take, replicate, Some, Ok, Err, Result, sym, ap, ◌∙◌, subst, arith}
 use lib.ListN.{length-replicate}
 use lib.Seq.{take-append-le, take-length}
 use Rattle.std.proofs.lemmas.Bool.{and_from, le-leb}
 use Rattle.terms.specs.declared.refusal.Refusal.{Refusal}
 use Rattle.arena.specs.Arena.{Arena}
-use Rattle.arena.specs.Tally.{Played, leads}
+use Rattle.arena.specs.Tally.{leads}
 use Rattle.words.specs.declared.name.Name.{Name}
-use Rattle.words.specs.Names.{HoldsNames}
 use Rattle.words.specs.Signals.{Outcome, served, reads}
 use Rattle.rules.specs.declared.part.Part.{Part}
 use Rattle.rules.specs.declared.part.Part.TheVariants.{True}
 use Rattle.rules.specs.Rule.{Rule, Fails}
-use Rattle.rules.specs.Sets.{Sets, too_wide, sets}
+use Rattle.rules.specs.Sets.{too_wide, sets}
 use Rattle.rules.specs.Parts.{part, Falls, duty_number}
-use Rattle.rules.specs.Table.{Entry, parts_of}
+use Rattle.rules.specs.Table.{parts_of}
 use Rattle.rules.specs.Progress.{list_of}
-use Rattle.rules.specs.Explore.{Compiled, lost_start, wide_at, too_large, positions, rounds, start, explore, compiled, AllInRange}
+use Rattle.rules.specs.Explore.{Compiled, lost_start, wide_at, too_large, positions, rounds, start, explore, compiled}
 use Rattle.rules.specs.Game.{game}
 use Rattle.rules.proofs.FailLaws.{fails_right}
 use Rattle.rules.proofs.GameLaws.{game_right}
 use Rattle.rules.proofs.ReachLaws.{positions_right}
 use Rattle.rules.proofs.TableLaws.{parts_good}
 use Rattle.reader.specs.declared.texts.Texts.{Texts}
-use Rattle.reader.specs.declared.texts.Misread.{Misread}
-use Rattle.reader.specs.Names.{known}
 use Rattle.reader.specs.Texts.{Small}
 use Rattle.reader.specs.Both.{Both, both_served}
 use Rattle.compile.specs.declared.position.Position.{Position}
 use Rattle.compile.specs.Positions.{reason, Charted}
 use Rattle.compile.specs.Explored.{explored, Explores}
 use Rattle.compile.specs.TableGame.{arena_in}
-use Rattle.compile.specs.Compiling.{built, Builds, Reads-as, Promise, Served}
+use Rattle.compile.specs.Compiling.{built, Builds, ReadsAs, Promise, Served}
 use Rattle.compile.specs.declared.compiled.Compiled.{Compiled as Numbers}
 use Rattle.compile.proofs.TableGameLaws.{charted_game}
 
@@ -70,7 +67,7 @@ pub record BothSay (names : List Name) (signals rule : List ℕ) (t : Texts) (na
   pub ins : List (List ℕ)
   pub outs : List (List ℕ)
   pub says : Rule
-  pub reads_as : Reads-as (length names) signals rule names' ins outs says
+  pub reads_as : ReadsAs (length names) signals rule names' ins outs says
   pub inputs_are : t.signals.inputs ≡ length ins
   pub outputs_are : t.signals.outputs ≡ length outs
   pub few_in : length ins ≤ 4

@@ -1,6 +1,6 @@
 -- What a value gives, carried along equations; joins of lists where one may be too wide.
-use Rattle.std.proofs.Common.{◌≡◌, ℕ, List, Some, None, Option, sym, refl, ap, ◌∙◌, subst}
-use Rattle.rules.specs.Sets.{Sets, too_wide, sets, join_or, join_and, trim, unions}
+use Rattle.std.proofs.Common.{◌≡◌, ℕ, List, None, Option, sym, refl, ap, ◌∙◌, subst}
+use Rattle.rules.specs.Sets.{Sets, too_wide, sets, join_or, join_and}
 use Rattle.compile.specs.declared.list.DutyList.{DutyList}
 use Rattle.compile.specs.Listed.{items, IsList, Gives}
 

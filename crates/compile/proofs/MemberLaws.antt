@@ -1,9 +1,9 @@
 -- The lowest member of a set, and the set without it.
-use Rattle.std.proofs.Common.{◌≡◌, ℕ, zero, suc, ◌+◌, ◌-◌, ◌*◌, ◌/◌, ◌%◌, ◌^◌, ◌<◌, ◌≤◌, min, ◌⊎◌, List, [], ◌∷◌, sym, refl, ap, ◌∙◌, subst, inl, inr, ⊎_elim, add-zero, add-suc, pow-suc, arith}
-use lib.Bits.{bit_and, and_step, and_self, and_le_r}
-use lib.Count.{count_trailing_zeros, under}
+use Rattle.std.proofs.Common.{◌≡◌, ℕ, zero, suc, ◌+◌, ◌-◌, ◌*◌, ◌/◌, ◌%◌, ◌^◌, ◌<◌, ◌⊎◌, [], ◌∷◌, refl, ap, ◌∙◌, inl, inr, ⊎_elim, add-zero, pow-suc, arith}
+use lib.Bits.{bit_and, and_step, and_self}
+use lib.Count.{count_trailing_zeros}
 use Rattle.std.proofs.lemmas.Bool.{cases_eq}
-use Rattle.rules.specs.Sets.{put, digits_set, members}
+use Rattle.rules.specs.Sets.{digits_set, members}
 
 odd_or_even : (n : ℕ) → (n % 2 ≡ 0) ⊎ (n % 2 ≡ 1)
 odd_or_even n = ⊎_elim inl (λ no. inr (omega arith)) (cases_eq (n % 2) 0)

@@ -1,5 +1,5 @@
 -- The game of a store that holds a compiled rule is the rule's game.
-use Rattle.std.proofs.Common.{◌≡◌, ℕ, zero, suc, ◌+◌, ◌-◌, ◌*◌, ◌/◌, ◌%◌, ◌^◌, ◌<◌, ◌≤◌, min, true, false, cond, ◌&&◌, ◌||◌, ltb, leb, List, [], ◌∷◌, length, get_or, sym, refl, ap, ◌∙◌, subst, ap₂, ⊎_elim, arith, pow_mono}
+use Rattle.std.proofs.Common.{◌≡◌, ℕ, zero, suc, ◌-◌, ◌*◌, ◌^◌, ◌<◌, ◌≤◌, min, true, false, cond, ◌&&◌, ◌||◌, ltb, leb, List, [], ◌∷◌, length, get_or, sym, ap, ◌∙◌, subst, ap₂, ⊎_elim, arith, pow_mono}
 use lib.Arith.{digits_lt, digits_div, digits_mod}
 use lib.ListN.{get_or-eq_default}
 use Rattle.std.proofs.lemmas.List.{get_or-replicate, length-replicate}
@@ -12,11 +12,11 @@ use Rattle.arena.specs.Tally.{Played}
 use Rattle.rules.specs.declared.part.Part.{Part}
 use Rattle.rules.specs.Rule.{Rule}
 use Rattle.rules.specs.Sets.{Sets, too_wide, sets}
-use Rattle.rules.specs.Table.{Entry, parts_of}
+use Rattle.rules.specs.Table.{parts_of}
 use Rattle.rules.specs.Progress.{list_after}
 use Rattle.rules.specs.Explore.{positions, compiled, lists, start}
 use Rattle.rules.specs.Game.{position, rule_move, game}
-use Rattle.rules.proofs.CompileLaws.{Is, Grows, start_of, Found, found}
+use Rattle.rules.proofs.CompileLaws.{Is, Grows, start_of, found}
 use Rattle.rules.proofs.GameLaws.{game_sound}
 use Rattle.compile.specs.declared.position.Position.{Position}
 use Rattle.compile.specs.Positions.{unused, turn_number, turn_at, Charted}

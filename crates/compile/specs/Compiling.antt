@@ -1,7 +1,7 @@
 -- What compiling two texts comes to, and what the stores then hold.
 -- built: exploring from the list of a part. Builds: what building comes to. ZeroPositions: a store of zero entries.
--- Reads-as: the rule that two texts say. Promise: what a compiled rule is. Compiles: the four outcomes.
-use Rattle.std.specs.Prelude.{◌≡◌, ℕ, ◌-◌, ◌<◌, ◌≤◌, ◌⊎◌, ◌↔◌, List, [], ◌++◌, length, replicate, Some, Ok, Err, Result}
+-- ReadsAs: the rule that two texts say. Promise: what a compiled rule is. Compiles: the four outcomes.
+use Rattle.std.specs.Prelude.{◌≡◌, ℕ, ◌-◌, ◌≤◌, ◌↔◌, List, [], ◌++◌, length, replicate, Some, Ok, Err, Result}
 use Rattle.terms.specs.declared.refusal.Refusal.{Refusal}
 use Rattle.terms.specs.declared.refusal.Refusal.TheVariants.{StoreTooShort}
 use Rattle.arena.specs.Arena.{Arena}
@@ -48,7 +48,7 @@ pub record Roomy (names : List Name) (parts : List Part) (store : List Position)
   pub for_positions : 255 ≤ length store
 
 -- the two texts say the rule f over these inputs and outputs, whose names are stored so
-pub record Reads-as (room : ℕ) (signals rule : List ℕ) (stored : List Name) (ins outs : List (List ℕ)) (f : Rule) : Type 0 where
+pub record ReadsAs (room : ℕ) (signals rule : List ℕ) (stored : List Name) (ins outs : List (List ℕ)) (f : Rule) : Type 0 where
   pub named : Outcome room signals (served ins outs)
   pub stored_names : HoldsNames (ins ++ outs) stored
   pub said : RuleText (known stored (length ins) (length outs)) rule (tree f)
@@ -67,7 +67,7 @@ pub record Served (room : ℕ) (signals rule : List ℕ) (c : Numbers) (names : 
   pub ins : List (List ℕ)
   pub outs : List (List ℕ)
   pub says : Rule
-  pub reads : Reads-as room signals rule names ins outs says
+  pub reads : ReadsAs room signals rule names ins outs says
   pub parts_are : parts ≡ (parts_of says).table ++ replicate (length parts - length (parts_of says).table) True
   pub found : List (List ℕ)
   pub compiles : compiled (length ins) (length outs) says ≡ positions found
@@ -84,7 +84,7 @@ pub data Compiles (names : List Name) (parts : List Part) (store : List Position
       → Both names parts signals rule (Err m) names' parts' → ZeroPositions store'
       → Compiles names parts store signals rule (Err m) names' parts' store'
   rule_refused : {stored : List Name} {ins outs : List (List ℕ)} {f : Rule} {e : Refusal} {names' : List Name} {parts' : List Part} {store' : List Position} → Roomy names parts store
-      → Reads-as (length names) signals rule stored ins outs f → reason (compiled (length ins) (length outs) f) ≡ Some e
+      → ReadsAs (length names) signals rule stored ins outs f → reason (compiled (length ins) (length outs) f) ≡ Some e
       → HoldsNames [] names' → ZeroParts parts' → ZeroPositions store'
       → Compiles names parts store signals rule (Err (record { text = Neither; refusal = e })) names' parts' store'
   compiles : {c : Numbers} {names' : List Name} {parts' : List Part} {store' : List Position} → Roomy names parts store

@@ -4,7 +4,7 @@
 use Rattle.std.specs.Prelude.{◌≡◌, ℕ, ◌<◌, ◌≤◌, List, length, slice_index, slice_index_or}
 use Rattle.arena.specs.Tally.{Played}
 use Rattle.rules.specs.declared.part.Part.{Part}
-use Rattle.rules.specs.Sets.{Sets, too_wide, sets}
+use Rattle.rules.specs.Sets.{Sets, too_wide}
 use Rattle.rules.specs.Parts.{part, Falls, duty_number, duty_part}
 use Rattle.compile.specs.declared.progress.Known.{Known}
 use Rattle.compile.specs.declared.progress.Known.TheVariants.{Unknown, Wide, List as Made}

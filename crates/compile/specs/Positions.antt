@@ -10,7 +10,6 @@ use Rattle.rules.specs.Sets.{sets}
 use Rattle.rules.specs.Progress.{list_after}
 use Rattle.rules.specs.Explore.{Compiled, too_large, lost_start, wide_at, too_many, positions, same_list}
 use Rattle.rules.specs.Game.{position}
-use Rattle.compile.specs.declared.list.DutyList.{DutyList}
 use Rattle.compile.specs.declared.position.Position.{Position}
 use Rattle.compile.specs.Listed.{IsList}
 

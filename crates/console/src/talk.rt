@@ -1,5 +1,5 @@
 // The calls of a run as lines of text, and what they are told.
-use crate::words::Line;
+use crate::phrases::Line;
 use std::fmt;
 use terms::call::{Call, Reply};
 use terms::count::Count;

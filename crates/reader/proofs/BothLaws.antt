@@ -1,5 +1,5 @@
 -- What two texts come to, from what each comes to.
-use Rattle.std.proofs.Common.{◌≡◌, ℕ, ◌-◌, ◌<◌, ◌≤◌, List, [], ◌++◌, length, take, replicate, Ok, Err, Result, sym, ap, ◌∙◌, subst, ap₂, arith}
+use Rattle.std.proofs.Common.{◌≡◌, ℕ, ◌-◌, ◌≤◌, List, [], ◌++◌, length, take, replicate, Ok, Err, Result, sym, ap, ◌∙◌, subst, ap₂, arith}
 use Rattle.terms.specs.declared.refusal.Refusal.{Refusal}
 use Rattle.terms.specs.Refusals as refusals
 use Rattle.words.specs.declared.name.Name.{Name}

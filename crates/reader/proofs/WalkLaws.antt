@@ -1,5 +1,5 @@
 -- What stands still, and what is still the beginning of a rule.
-use Rattle.std.proofs.Common.{◌≡◌, ℕ, ◌+◌, ◌≤◌, List, [], ◌∷◌, ◌++◌, length, Some, refl, ap, ◌∙◌, append_assoc, arith}
+use Rattle.std.proofs.Common.{◌≡◌, ℕ, ◌≤◌, List, [], ◌∷◌, ◌++◌, length, Some, refl, ap, ◌∙◌, append_assoc, arith}
 use Rattle.words.specs.Words.{Said, close', true', name'}
 use Rattle.rules.specs.declared.part.Signal.{Signal}
 use Rattle.reader.specs.Grammar.{Names}

@@ -1,14 +1,13 @@
 -- What exploring finds is closed under moves.
-use Rattle.std.proofs.Common.{◌≡◌, ℕ, zero, suc, ◌+◌, ◌-◌, ◌^◌, ◌<◌, ◌≤◌, Bool, true, false, cond, ◌&&◌, ◌||◌, eqb, ltb, leb, ◌⊎◌, ◌↔◌, List, [], ◌∷◌, ◌++◌, map, length, get_or, drop, fold, sym, refl, ap, ◌∙◌, subst, ap₂, inl, inr, ⊎_elim, append_assoc, append-nil, arith, length-append, length-drop, drop-cons}
+use Rattle.std.proofs.Common.{◌≡◌, ℕ, zero, suc, ◌+◌, ◌^◌, ◌<◌, ◌≤◌, Bool, true, false, cond, ◌&&◌, eqb, ltb, leb, ◌↔◌, List, [], ◌∷◌, ◌++◌, map, length, get_or, drop, fold, sym, refl, ap, ◌∙◌, subst, inl, inr, ⊎_elim, append_assoc, append-nil, arith, length-append, length-drop, drop-cons}
 use lib.ListN.{get_or-append}
-use Rattle.std.proofs.lemmas.Bool.{cond_both, leb-true, ltb-true, eqb-true, eq-eqb, or_left, or_right, or_cases, and_parts, and_from, cases_Bool, cases_eq, cases_lt, both_ways}
+use Rattle.std.proofs.lemmas.Bool.{cond_both, leb-true, ltb-true, eqb-true, eq-eqb, or_left, or_right, or_cases, and_parts, and_from, cases_eq, both_ways}
 use Rattle.arena.specs.Tally.{Played}
 use Rattle.rules.specs.declared.part.Part.{Part}
-use Rattle.rules.specs.declared.part.Part.TheVariants.{True, False, Literal, Next, Release, Both, Either}
 use Rattle.rules.specs.Rule.{Rule, Fails}
 use Rattle.rules.specs.Sets.{Sets, too_wide, sets}
 use Rattle.rules.specs.Parts.{duty_number}
-use Rattle.rules.specs.Table.{Entry, parts_of}
+use Rattle.rules.specs.Table.{parts_of}
 use Rattle.rules.specs.Progress.{list_of, list_after, list_after_all}
 use Rattle.rules.specs.Explore.{Compiled, too_large, lost_start, wide_at, too_many, positions, same_list, among, met, move, numbers, with_inputs, rounds, turn, explore, start, compiled, lists, InRange, AllInRange}
 use Rattle.rules.proofs.TableLaws.{rule_lost_right}

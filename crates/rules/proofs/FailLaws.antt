@@ -1,10 +1,9 @@
 -- A rule fails where its negation holds.
-use Rattle.std.proofs.Common.{◌≡◌, ℕ, zero, suc, ◌<◌, ◌≤◌, Bool, true, false, not, ◌⊎◌, ◌↔◌, List, ◌++◌, length, sym, refl, ap, ◌∙◌, subst, inl, inr, ⊎_elim, arith, length-append}
+use Rattle.std.proofs.Common.{◌≡◌, ℕ, suc, ◌<◌, ◌≤◌, Bool, true, false, not, ◌↔◌, List, ◌++◌, length, refl, ap, ◌∙◌, subst, inl, inr, ⊎_elim, arith, length-append}
 use lib.ListN.{get_or-append}
 use Rattle.std.proofs.lemmas.Bool.{cases_lt, not-true, not-false, not_from_true, not_from_false}
 use Rattle.arena.specs.Tally.{Played}
 use Rattle.rules.specs.declared.part.Signal.{Signal}
-use Rattle.rules.specs.declared.part.Signal.TheVariants.{Input, Output}
 use Rattle.rules.specs.Rule.{Rule, always, never, literal, next, release, both, either, is_on, round, agrees, Fails}
 use Rattle.rules.specs.Cosafe.{Cosafe, top, bottom, atom, following, until, conj, disj, negation, Holds, HoldsInside, Plain}
 

@@ -1,14 +1,13 @@
 -- Every list is trimmed, or too wide.
-use Rattle.std.proofs.Common.{◌≡◌, ℕ, zero, suc, ◌^◌, ◌<◌, ◌≤◌, Bool, true, false, cond, leb, List, [], ◌∷◌, ◌++◌, map, length, get_or, fold, sym, refl, ap, ◌∙◌, subst, append-nil, arith}
+use Rattle.std.proofs.Common.{◌≡◌, ℕ, ◌^◌, ◌≤◌, leb, List, [], ◌∷◌, ◌++◌, map, length, get_or, fold, refl, ap, ◌∙◌, append-nil, arith}
 use lib.Bits.{bit_or, or_zero_l}
 use Rattle.std.proofs.lemmas.Bool.{cond_both, cond-true, leb-true, le-leb}
 use Rattle.arena.specs.Tally.{Played}
 use Rattle.rules.specs.declared.part.Part.{Part}
 use Rattle.rules.specs.declared.part.Part.TheVariants.{True, False, Literal, Next, Release, Both, Either}
-use Rattle.rules.specs.Rule.{agrees}
 use Rattle.rules.specs.Sets.{trim, unions, Sets, too_wide, sets, fit, join_or, join_and, Trimmed, Trims, Fits}
 use Rattle.rules.specs.Parts.{part, duty_number}
-use Rattle.rules.specs.Progress.{of_true, of_false, own, list_from, list_in, list_of, after_from, set_after, list_after}
+use Rattle.rules.specs.Progress.{of_true, of_false, list_from, list_in, list_of, set_after, list_after}
 use Rattle.rules.proofs.TrimLaws.{within_self, trim_right, one_trim}
 
 fit_fits : (xs : List ℕ) → Trimmed xs → Fits (fit xs)

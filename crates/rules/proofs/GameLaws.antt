@@ -1,18 +1,17 @@
 -- A compiled rule is a game, and is lost where the rule fails.
-use Rattle.std.proofs.Common.{◌≡◌, ℕ, zero, suc, ◌+◌, ◌-◌, ◌^◌, ◌<◌, ◌≤◌, min, Bool, true, false, cond, ◌&&◌, ◌||◌, ltb, ◌⊎◌, ◌↔◌, List, [], ◌∷◌, ◌++◌, length, get_or, sym, refl, ap, ◌∙◌, subst, inl, inr, ⊎_elim, arith, length-append}
+use Rattle.std.proofs.Common.{◌≡◌, ℕ, zero, suc, ◌+◌, ◌^◌, ◌<◌, ◌≤◌, min, true, false, ◌&&◌, ◌||◌, ltb, ◌↔◌, List, [], ◌∷◌, length, get_or, sym, refl, ap, ◌∙◌, subst, inl, inr, arith}
 use lib.ListN.{get_or-eq_default}
-use Rattle.std.proofs.lemmas.Bool.{cond_both, cond-true, cond-false, lt-ltb, le-ltb, and_from, and_left, and_right, cases_Bool, both_ways, or_cases}
+use Rattle.std.proofs.lemmas.Bool.{cond_both, cond-true, cond-false, lt-ltb, le-ltb, and_from, and_left, and_right, cases_Bool, both_ways}
 use Rattle.arena.specs.Tally.{Played, leads}
 use Rattle.rules.specs.declared.part.Part.{Part}
-use Rattle.rules.specs.declared.part.Part.TheVariants.{True, False, Literal, Next, Release, Both, Either}
 use Rattle.rules.specs.Rule.{Rule, Fails}
 use Rattle.rules.specs.Sets.{Sets, too_wide, sets}
-use Rattle.rules.specs.Table.{Entry, parts_of}
+use Rattle.rules.specs.Table.{parts_of}
 use Rattle.rules.specs.Progress.{list_after, list_after_all}
 use Rattle.rules.specs.Explore.{Compiled, too_large, lost_start, wide_at, too_many, positions, same_list, among, rounds, compiled, start, lists, InRange, AllInRange}
 use Rattle.arena.specs.Arena.{Arena, Sound}
 use Rattle.rules.specs.Game.{number_from, position, rule_move, game}
-use Rattle.rules.proofs.CompileLaws.{Ok, Grows, Is, AllOk, Closed, round_in, same_list_true, same_list_self, run_ok, start_of, Found, found}
+use Rattle.rules.proofs.CompileLaws.{Ok, Grows, Is, Closed, same_list_true, same_list_self, run_ok, start_of, found}
 use Rattle.rules.proofs.TableLaws.{rule_lost_right}
 
 number_most : (k : ℕ) (known : List (List ℕ)) (s : List ℕ) → number_from (suc k) known s ≤ k + length known

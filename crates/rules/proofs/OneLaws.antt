@@ -1,17 +1,13 @@
 -- The table of a rule has its parts, each once.
-use Rattle.std.proofs.Common.{◌≡◌, ℕ, zero, suc, ◌+◌, ◌<◌, ◌≤◌, Bool, true, false, cond, ltb, ◌⊎◌, ◌↔◌, List, [], ◌∷◌, ◌++◌, length, get_or, sym, refl, ap, ◌∙◌, subst, ap₂, inl, inr, ⊎_elim, arith, length-append}
-use mathlib.Core.Logic.{ite, if_pos}
+use Rattle.std.proofs.Common.{◌≡◌, ℕ, zero, suc, ◌<◌, ◌≤◌, ltb, ◌⊎◌, ◌↔◌, List, [], ◌∷◌, ◌++◌, length, sym, refl, ap, ◌∙◌, ap₂, inl, inr, ⊎_elim, arith, length-append}
 use lib.Seq.{get_or-append_seam}
-use Rattle.std.proofs.lemmas.Bool.{cases_Bool, cases_lt, cond-true, cond-false, cond_both, lt-ltb, le-ltb, both_ways}
-use Rattle.rules.specs.declared.part.Signal.{Signal}
-use Rattle.rules.specs.declared.part.Signal.TheVariants.{Input, Output}
+use Rattle.std.proofs.lemmas.Bool.{cases_Bool, cases_lt, cond-true, cond-false, lt-ltb, le-ltb}
 use Rattle.rules.specs.declared.part.Part.{Part}
 use Rattle.rules.specs.declared.part.Part.TheVariants.{True, False, Literal, Next, Release, Both, Either}
 use Rattle.rules.specs.Rule.{Rule, always, never, literal, next, release, both, either}
 use Rattle.rules.specs.Parts.{part, Falls, rule_from, rule_in, rule_of}
 use Rattle.rules.specs.Table.{same_part, place, Entry, enter, parts_on, parts_of, PartOf}
-use Rattle.rules.proofs.PartLaws.{rule_stays}
-use Rattle.rules.proofs.TableLaws.{Falling, place_most, place_is, part_front, rule_front, Good, enter_good, parts_good, inside_later}
+use Rattle.rules.proofs.TableLaws.{Falling, place_most, part_front, rule_front, Good, enter_good, parts_good, inside_later}
 use Rattle.rules.specs.Same.{same_self}
 
 -- each part stands at its place

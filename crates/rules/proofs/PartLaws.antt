@@ -1,10 +1,10 @@
 -- Parts, their rules and their duties.
-use Rattle.std.specs.Prelude.{◌≡◌, ℕ, zero, suc, ◌+◌, ◌<◌, ◌≤◌, Bool, true, false, cond, ◌⊎◌, List, [], ◌∷◌, length, get_or, refl}
-use Rattle.std.proofs.Common.{sym, ap, ap₂, subst, ◌∙◌, inl, inr, ⊎_elim, zero-add, one-add, arith}
-use Rattle.std.proofs.lemmas.Bool.{cases_Bool, false≢true}
+use Rattle.std.specs.Prelude.{◌≡◌, ℕ, zero, suc, ◌+◌, ◌<◌, Bool, true, false, cond, ◌⊎◌, List, [], ◌∷◌, length, refl}
+use Rattle.std.proofs.Common.{ap, ap₂, ◌∙◌, inl, inr, zero-add, one-add, arith}
+use Rattle.std.proofs.lemmas.Bool.{false≢true}
 use Rattle.rules.specs.declared.part.Part.{Part}
 use Rattle.rules.specs.declared.part.Part.TheVariants.{True, False, Literal, Next, Release, Both, Either}
-use Rattle.rules.specs.Rule.{Rule, always, next, release, both, either}
+use Rattle.rules.specs.Rule.{Rule, next, release, both, either}
 use Rattle.rules.specs.Parts.{part, Falls, is_duty, duty_number, behind, duty_part, rule_from, rule_in}
 
 pub rule_same : (f g : ℕ → Rule) (k : ℕ) (x : Part) → Falls k x → ((a : ℕ) → a < k → f a ≡ g a) → rule_from f x ≡ rule_from g x

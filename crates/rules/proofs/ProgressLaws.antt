@@ -1,5 +1,5 @@
 -- A list after rounds is empty exactly when its rule fails.
-use Rattle.std.specs.Prelude.{◌≡◌, ℕ, zero, suc, ◌+◌, ◌^◌, ◌<◌, ◌≤◌, Bool, true, false, cond, ◌⊎◌, ◌↔◌, List, [], ◌∷◌, length, get_or, drop, fold}
+use Rattle.std.specs.Prelude.{◌≡◌, ℕ, zero, suc, ◌+◌, ◌<◌, Bool, true, false, ◌⊎◌, ◌↔◌, List, [], ◌∷◌, length, drop, fold}
 use Rattle.std.proofs.Math.Path.{refl, subst}
 use Rattle.std.proofs.Common.{sym, ap, ◌∙◌, inl, ⊎_elim}
 use Rattle.std.proofs.Math.Logic.{inr}
@@ -9,7 +9,7 @@ use Rattle.std.proofs.lemmas.Bool.{cond_both, cases_eq, both_ways}
 use Rattle.arena.specs.Tally.{Played}
 use Rattle.rules.specs.declared.part.Part.{Part}
 use Rattle.rules.specs.declared.part.Part.TheVariants.{True, False, Literal, Next, Release, Both, Either}
-use Rattle.rules.specs.Rule.{Rule, always, never, literal, next, release, both, either, round, agrees, Fails}
+use Rattle.rules.specs.Rule.{Rule, literal, next, release, round, agrees, Fails}
 use Rattle.rules.specs.Sets.{Sets, too_wide, sets, join_or, join_and, members}
 use Rattle.rules.specs.Parts.{part, Falls, is_duty, duty_number, duty_part, WellFormed, rule_from, rule_in, rule_of}
 use Rattle.rules.specs.Progress.{of_true, of_false, own, list_from, list_in, list_of, after_from, after_in, part_after, set_after, list_after, list_after_all}

@@ -1,16 +1,15 @@
 -- The positions of a compiled rule are the lists that are reached.
-use Rattle.std.proofs.Common.{◌≡◌, ℕ, zero, suc, ◌+◌, ◌^◌, ◌<◌, ◌≤◌, Bool, true, false, cond, ◌&&◌, ◌||◌, ltb, leb, ◌⊎◌, ◌↔◌, List, [], ◌∷◌, ◌++◌, map, length, get_or, drop, fold, sym, refl, ap, ◌∙◌, subst, inl, inr, ⊎_elim, arith, length-append, length-drop, drop-cons}
+use Rattle.std.proofs.Common.{◌≡◌, ℕ, zero, suc, ◌+◌, ◌^◌, ◌<◌, ◌≤◌, true, false, cond, ◌&&◌, ltb, leb, List, [], ◌∷◌, ◌++◌, map, length, get_or, drop, fold, sym, refl, ap, ◌∙◌, subst, inl, inr, arith, length-append, length-drop, drop-cons}
 use lib.ListN.{get_or-append}
 use lib.Seq.{get_or-append_seam}
 use Rattle.std.proofs.lemmas.Bool.{cond_both, or_parts, cases_lt, both_ways}
 use Rattle.arena.specs.Tally.{Played}
 use Rattle.rules.specs.declared.part.Part.{Part}
-use Rattle.rules.specs.declared.part.Part.TheVariants.{True, False, Literal, Next, Release, Both, Either}
 use Rattle.rules.specs.Rule.{Rule}
 use Rattle.rules.specs.Sets.{Sets, too_wide, sets}
 use Rattle.rules.specs.Parts.{duty_number}
-use Rattle.rules.specs.Table.{Entry, parts_of}
-use Rattle.rules.specs.Progress.{list_of, list_after, list_after_all}
+use Rattle.rules.specs.Table.{parts_of}
+use Rattle.rules.specs.Progress.{list_after, list_after_all}
 use Rattle.rules.specs.Explore.{Compiled, too_large, lost_start, wide_at, too_many, positions, same_list, among, met, move, numbers, with_inputs, rounds, turn, explore, start, compiled, lists, InRange, AllInRange, led_to, Reachable}
 use Rattle.rules.proofs.CompileLaws.{Each, Ok, run_ok, among_at, same_list_self, Found, found, start_of}
 

@@ -1,5 +1,5 @@
 -- Joining and trimming keep what a list says of failing.
-use Rattle.std.specs.Prelude.{◌≡◌, ℕ, zero, suc, ◌+◌, ◌^◌, ◌<◌, ◌≤◌, min, max, Bool, true, false, cond, ◌||◌, ◌⊎◌, ◌↔◌, List, [], ◌∷◌, ◌++◌, map, length, nat_le, refl}
+use Rattle.std.specs.Prelude.{◌≡◌, ℕ, ◌^◌, ◌<◌, min, true, cond, ◌⊎◌, ◌↔◌, List, [], ◌∷◌, ◌++◌, map, length, nat_le}
 use Rattle.std.proofs.Common.{sym, ap, subst, ◌∙◌, inl, inr, ⊎_elim, arith}
 use Rattle.std.proofs.Math.Logic.Iff
 use Rattle.std.specs.Int.Bits.{bit_and, bit_or}

@@ -1,20 +1,17 @@
 -- The table of a rule stands for the rule.
-use Rattle.std.specs.Prelude.{◌≡◌, ℕ, zero, suc, ◌+◌, ◌<◌, ◌≤◌, Bool, true, false, cond, ◌⊎◌, ◌↔◌, List, [], ◌∷◌, ◌++◌, length, ◌==◌, refl}
-use Rattle.std.proofs.Common.{sym, ap, ap₂, subst, ◌∙◌, append_assoc, append-nil, inl, inr, ⊎_elim, arith, length-append}
+use Rattle.std.specs.Prelude.{◌≡◌, ℕ, zero, suc, ◌<◌, ◌≤◌, Bool, true, false, cond, ◌↔◌, List, [], ◌∷◌, ◌++◌, length, refl}
+use Rattle.std.proofs.Common.{sym, ap, ap₂, subst, ◌∙◌, append_assoc, append-nil, inl, inr, arith, length-append}
 use Rattle.std.proofs.Math.ListN.{get_or-append, get_or-eq_default}
 use Rattle.std.proofs.Math.Seq.{get_or-append_seam}
-use Rattle.std.proofs.lemmas.Bool.{cases_Bool, cases_lt, cases_order, cond_both, lt-ltb, le-ltb}
-use Rattle.std.proofs.lemmas.Bool.Decides.{nat_tests}
+use Rattle.std.proofs.lemmas.Bool.{cases_lt, cases_order, cond_both, lt-ltb, le-ltb}
 use Rattle.arena.specs.Tally.{Played}
-use Rattle.rules.specs.declared.part.Signal.{Signal}
-use Rattle.rules.specs.declared.part.Signal.TheVariants.{Input, Output}
 use Rattle.rules.specs.declared.part.Part.{Part}
 use Rattle.rules.specs.declared.part.Part.TheVariants.{True, False, Literal, Next, Release, Both, Either}
 use Rattle.rules.specs.Rule.{Rule, always, never, literal, next, release, both, either, Fails}
-use Rattle.rules.specs.Sets.{Sets, sets}
-use Rattle.rules.specs.Parts.{part, Falls, is_duty, duty_number, WellFormed, rule_from, rule_in, rule_of}
-use Rattle.rules.specs.Same.{same_true, same_self}
-use Rattle.rules.specs.Table.{kind, left, right, same_part, place, Entry, enter, parts_on, parts_of}
+use Rattle.rules.specs.Sets.{sets}
+use Rattle.rules.specs.Parts.{part, Falls, duty_number, rule_from, rule_in, rule_of}
+use Rattle.rules.specs.Same.{same_true}
+use Rattle.rules.specs.Table.{same_part, place, Entry, enter, parts_on, parts_of}
 use Rattle.rules.specs.Progress.{list_of, list_after_all}
 use Rattle.rules.proofs.PartLaws.{rule_same, rule_stays}
 use Rattle.rules.proofs.ProgressLaws.{lost_right}

@@ -2,15 +2,14 @@
 use Rattle.std.specs.Prelude.{◌≡◌, ℕ, ◌<◌, ◌≤◌, ◌↔◌, List, [], ◌++◌, length}
 use Rattle.arena.specs.Tally.{Played, leads}
 use Rattle.rules.specs.declared.part.Part.{Part}
-use Rattle.rules.specs.declared.part.Part.TheVariants.{True, False, Literal, Next, Release, Both, Either}
 use Rattle.rules.specs.Rule.{Rule, Fails}
 use Rattle.rules.specs.Cosafe.{Cosafe, negation, Holds, HoldsInside, Plain}
-use Rattle.rules.specs.Sets.{Sets, too_wide, sets, trim, Trims, Fits, join_or, join_and}
+use Rattle.rules.specs.Sets.{Sets, sets, trim, Trims, Fits, join_or, join_and}
 use Rattle.rules.specs.Parts.{part, Falls, duty_number, WellFormed, rule_of}
-use Rattle.rules.specs.Table.{Entry, parts_of, PartOf}
+use Rattle.rules.specs.Table.{parts_of, PartOf}
 use Rattle.rules.specs.Progress.{of_true, of_false, list_from, after_from, part_after, list_of, list_after, list_after_all}
-use Rattle.rules.specs.Explore.{Compiled, positions, compiled, AllInRange, led_to, Reachable}
-use Rattle.arena.specs.Arena.{Arena, Sound}
+use Rattle.rules.specs.Explore.{positions, compiled, AllInRange, led_to, Reachable}
+use Rattle.arena.specs.Arena.{Sound}
 use Rattle.rules.specs.Game.{game}
 
 -- a rule fails where its negation holds

@@ -1,8 +1,7 @@
 -- The negation of a rule, and its truth over a finite trace in first-order words.
-use Rattle.std.specs.Prelude.{◌≡◌, ℕ, suc, ◌<◌, ◌≤◌, Bool, true, false, not, ◌⊎◌, List, length}
+use Rattle.std.specs.Prelude.{◌≡◌, ℕ, suc, ◌<◌, ◌≤◌, Bool, true, not, ◌⊎◌, List, length}
 use Rattle.arena.specs.Tally.{Played}
 use Rattle.rules.specs.declared.part.Signal.{Signal}
-use Rattle.rules.specs.declared.part.Signal.TheVariants.{Input, Output}
 use Rattle.rules.specs.Rule.{Rule, always, never, literal, next, release, both, either, agrees, round}
 
 pub data Cosafe : Type 0 where

@@ -2,11 +2,10 @@
 use Rattle.std.specs.Prelude.{◌≡◌, ℕ, zero, suc, ◌^◌, ◌<◌, Bool, true, false, cond, ◌&&◌, ◌||◌, List, [], ◌∷◌, ◌++◌, map, length, drop, fold, ◌==◌, ◌≢◌, nat_le, nat_lt, slice_index_or}
 use Rattle.arena.specs.Tally.{Played}
 use Rattle.rules.specs.declared.part.Part.{Part}
-use Rattle.rules.specs.declared.part.Part.TheVariants.{True, False, Literal, Next, Release, Both, Either}
 use Rattle.rules.specs.Rule.{Rule}
 use Rattle.rules.specs.Sets.{Sets, too_wide, sets}
 use Rattle.rules.specs.Parts.{duty_number}
-use Rattle.rules.specs.Table.{Entry, parts_on, parts_of}
+use Rattle.rules.specs.Table.{parts_on, parts_of}
 use Rattle.rules.specs.Progress.{list_in, list_of, list_after, list_after_all}
 
 -- the lists found, position 1 first, or why the rule does not compile

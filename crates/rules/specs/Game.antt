@@ -1,13 +1,11 @@
 -- A compiled rule as a game.
-use Rattle.std.specs.Prelude.{ℕ, zero, suc, ◌^◌, min, Bool, true, false, cond, ◌&&◌, List, [], ◌∷◌, length, nat_lt, slice_index_or}
-use Rattle.arena.specs.Tally.{Played}
+use Rattle.std.specs.Prelude.{ℕ, zero, suc, ◌^◌, min, cond, ◌&&◌, List, [], ◌∷◌, length, nat_lt, slice_index_or}
 use Rattle.rules.specs.declared.part.Part.{Part}
-use Rattle.rules.specs.declared.part.Part.TheVariants.{True, False, Literal, Next, Release, Both, Either}
 use Rattle.rules.specs.Rule.{Rule}
 use Rattle.rules.specs.Sets.{Sets, too_wide, sets}
-use Rattle.rules.specs.Table.{Entry, parts_of}
+use Rattle.rules.specs.Table.{parts_of}
 use Rattle.rules.specs.Progress.{list_after}
-use Rattle.rules.specs.Explore.{Compiled, same_list, compiled, lists}
+use Rattle.rules.specs.Explore.{same_list, compiled, lists}
 use Rattle.arena.specs.Arena.{Arena}
 
 -- the number of the list s, where these positions number from k; 0 where it is none

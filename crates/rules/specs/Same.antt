@@ -1,6 +1,6 @@
 -- Parts that are the same are equal: the laws by which parts are entries of a register.
 -- same_true, same_self: the same parts are exactly the equal ones.
-use Rattle.std.specs.Prelude.{◌≡◌, ℕ, zero, suc, Bool, true, false, ◌&&◌, ◌==◌, refl}
+use Rattle.std.specs.Prelude.{◌≡◌, ℕ, zero, suc, true, false, ◌&&◌, ◌==◌, refl}
 use Rattle.std.proofs.Common.{sym, ap, ◌∙◌}
 use Rattle.std.proofs.lemmas.Bool.{and_parts, and_from, eqb-true, eq-eqb}
 use Rattle.rules.specs.declared.part.Signal.TheVariants.{Input, Output}

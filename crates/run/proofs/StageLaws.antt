@@ -1,21 +1,19 @@
 -- With the game's book, each call of a run is told and leaves what the tally says.
-use Rattle.std.proofs.Common.{◌≡◌, ℕ, ◌^◌, ◌<◌, ◌≤◌, Bool, true, false, cond, ◌&&◌, ◌||◌, eqb, ltb, leb, List, [], ◌∷◌, length, Some, None, Ok, Err, Option, Result, sym, refl, ap, ◌∙◌, subst, inl, inr, arith}
+use Rattle.std.proofs.Common.{◌≡◌, ℕ, ◌^◌, ◌≤◌, Bool, true, false, cond, ◌||◌, eqb, ltb, List, Some, None, Ok, Err, Result, sym, refl, ap, ◌∙◌, subst, arith}
 use Rattle.std.proofs.lemmas.Bool.{eqb-true, eqb-false, ne_eqb, ltb-true, le-leb, and_from, cond-true, cond-false}
 use Rattle.terms.specs.declared.count.Count.{Count}
 use Rattle.terms.specs.declared.count.Count.TheVariants.{Lost, Limited, Unlimited}
 use Rattle.terms.specs.declared.call.Call.{Call}
 use Rattle.terms.specs.declared.call.Call.TheVariants.{Open, Set, Close, Abandon, AskPosition, AskCount, AskSpoiling}
-use Rattle.terms.specs.declared.call.Reply.{Reply}
 use Rattle.terms.specs.declared.call.Reply.TheVariants.{Position, Left, Spoiling}
 use Rattle.terms.specs.declared.refusal.Refusal.{Refusal}
 use Rattle.terms.specs.declared.refusal.Refusal.TheVariants.{NotThisBook, OutOfRange, RunLost}
 use Rattle.arena.specs.Arena.{Arena, Place, Sound}
-use Rattle.arena.specs.Count.{Counts}
-use Rattle.arena.specs.Values.{Spoils, Values}
-use Rattle.arena.specs.Book.{status, book_length, Book}
+use Rattle.arena.specs.Values.{Values}
+use Rattle.arena.specs.Book.{status, Book}
 use Rattle.arena.specs.Tally.{Played, Tally, between, during, closed, leads, place, position_of, standing, reply, after}
 use Rattle.arena.proofs.RowLaws.{leads_more, leads_within}
-use Rattle.book.specs.Told.{flag_told, answer_told}
+use Rattle.book.specs.Told.{answer_told}
 use Rattle.book.proofs.ToldLaws.{not_lost, lost_count, lost_spoiling, flag_is, told_count_is, told_spoiling_is, told_answer_is}
 use Rattle.run.specs.declared.run.Round.{Round}
 use Rattle.run.specs.declared.run.Declined.{Declined}

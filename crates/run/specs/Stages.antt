@@ -10,7 +10,6 @@ use Rattle.terms.specs.declared.call.Step.{Step}
 use Rattle.terms.specs.declared.refusal.Refusal.{Refusal}
 use Rattle.terms.specs.declared.refusal.Refusal.TheVariants.{OutOfRange}
 use Rattle.arena.specs.Arena.{Arena}
-use Rattle.run.specs.declared.run.Run.{Run}
 use Rattle.run.specs.declared.run.Round.{Round}
 use Rattle.run.specs.declared.run.Declined.{Declined}
 use Rattle.run.specs.declared.stage.Stage.{Stage}

@@ -1,5 +1,5 @@
 -- The order of counts.
-use Rattle.std.proofs.Common.{◌≡◌, ℕ, zero, suc, ◌+◌, ◌<◌, ◌≤◌, Bool, true, false, eqb, leb, ◌⊎◌, Decides, refl, ap, inl, inr, arith}
+use Rattle.std.proofs.Common.{◌≡◌, ℕ, zero, suc, ◌+◌, Bool, true, false, eqb, leb, ◌⊎◌, Decides, refl, ap, inl, inr, arith}
 use Rattle.std.proofs.lemmas.Bool.{cases_lt, false≢true, leb-true, le-leb, eqb-true, eq-eqb}
 use Rattle.terms.specs.declared.count.Count.{Count}
 use Rattle.terms.specs.declared.count.Count.TheVariants.{Lost, Limited, Unlimited}

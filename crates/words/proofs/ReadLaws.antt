@@ -1,5 +1,5 @@
 -- What the reader keeps from word to word, and what its answer says of the text.
-use Rattle.std.proofs.Common.{◌≡◌, ℕ, ◌<◌, ◌≤◌, true, false, List, [], ◌∷◌, ◌++◌, map, length, is_err, Ok, Err, Result, sym, refl, ap, ◌∙◌, subst, ap₂, subst₂, inl, append_assoc, append-nil, arith}
+use Rattle.std.proofs.Common.{◌≡◌, ℕ, ◌≤◌, true, false, List, [], ◌∷◌, ◌++◌, map, length, is_err, Ok, Err, Result, sym, refl, ap, ◌∙◌, subst, inl, append_assoc, append-nil, arith}
 use Rattle.std.specs.List.{AllByRecursion as All}
 use Rattle.std.proofs.lemmas.List.{map-append}
 use Rattle.std.proofs.lemmas.Bool.{true≢false, false≢true}
@@ -8,9 +8,9 @@ use Rattle.terms.specs.Refusals as refusals
 use Rattle.words.specs.declared.name.Name.{Name}
 use Rattle.words.specs.declared.signals.Reader.{Reader}
 use Rattle.words.specs.declared.signals.Signals.{Signals}
-use Rattle.words.specs.Words.{Said, in', out', name', Placed, at, said, Words, words_from}
+use Rattle.words.specs.Words.{Said, out', name', Placed, at, said, Words, words_from}
 use Rattle.words.specs.Names.{HoldsNames}
-use Rattle.words.specs.Signals.{In, listed, Is-signals, Begins, Told, Answer, served, refused, Fits, Outcome, store_short, text_long, reads, word_wrong, end_wrong, Gives, Leaves, Written, Read, Fault, strange, misplaced, long, repeated, fifth}
+use Rattle.words.specs.Signals.{In, IsSignals, Begins, Told, Answer, served, refused, Fits, Outcome, store_short, text_long, reads, word_wrong, end_wrong, Gives, Leaves, Written, Read, Fault, strange, misplaced, long, repeated, fifth}
 use Rattle.words.specs.Steps.{Step, sort, by_stage, finished}
 use Rattle.words.proofs.WordLaws.{words_all}
 use Rattle.words.proofs.PlainLaws.{Plain, Plainly, words_plain, from_plain}
@@ -74,22 +74,22 @@ module _ (text : List ℕ) (r : Reader) (i : ℕ) (store : List Name) (so : Read
         }
 
   -- behind `in` and inputs no signals text is complete
-  unfinished : (xs ins outs : List (List ℕ)) → ¬ Is-signals (words_of (inputs xs)) ins outs
+  unfinished : (xs ins outs : List (List ℕ)) → ¬ IsSignals (words_of (inputs xs)) ins outs
   unfinished xs ins outs s =
       let e = s.says in
       let same : map name' xs ≡ map name' ins ++ (out' ∷ map name' outs) = cc in
       let i : IsName out' = all_in out' IsName (map name' xs) (all_names xs) (subst (In out') (sym same) (in_right out' (map name' ins) (out' ∷ map name' outs) (inl refl))) in
       not_out i.1
 
-  unbegun : (ins outs : List (List ℕ)) → ¬ Is-signals [] ins outs
+  unbegun : (ins outs : List (List ℕ)) → ¬ IsSignals [] ins outs
   unbegun ins outs s = let e = s.says in let z : ◌≡◌ {A = ℕ} 0 1 = cc in omega arith
 
   module _ (room : ℕ) (fits : Fits room text) (end : words_from text i ≡ []) where
     whole : Words 0 text so.past
     whole = subst (Words 0 text) (so.split ∙ ap (λ l. so.past ++ l) end ∙ append-nil so.past) (words_all text)
 
-    cut : ((ins outs : List (List ℕ)) → ¬ Is-signals (words_of so.stand) ins outs) → Outcome room text (refused 3 (length text))
-    cut h = end_wrong fits whole (subst Begins (sym so.words) (stand_begins so.stand so.sound)) (λ ins outs s. h ins outs (subst (λ l. Is-signals l ins outs) so.words s))
+    cut : ((ins outs : List (List ℕ)) → ¬ IsSignals (words_of so.stand) ins outs) → Outcome room text (refused 3 (length text))
+    cut h = end_wrong fits whole (subst Begins (sym so.words) (stand_begins so.stand so.sound)) (λ ins outs s. h ins outs (subst (λ l. IsSignals l ins outs) so.words s))
 
     abbrev Ends : Stand → Type 0
     Ends s = so.stand ≡ s → Read room text (finished (reader_at s) (length text)) store
@@ -99,8 +99,8 @@ module _ (text : List ℕ) (r : Reader) (i : ℕ) (store : List Name) (so : Read
     ended = subst (λ z. Read room text (finished z (length text)) store) (sym so.is) (go so.stand refl)
       where
         go : (s : Stand) → Ends s
-        go before e = record { answer = refused 3 (length text); outcome = cut (λ ins outs s. unbegun ins outs (subst (λ z. Is-signals (words_of z) ins outs) e s)); gives = (refl, refl); written = tt }
-        go (inputs xs) e = record { answer = refused 3 (length text); outcome = cut (λ ins outs s. unfinished xs ins outs (subst (λ z. Is-signals (words_of z) ins outs) e s)); gives = (refl, refl); written = tt }
+        go before e = record { answer = refused 3 (length text); outcome = cut (λ ins outs s. unbegun ins outs (subst (λ z. IsSignals (words_of z) ins outs) e s)); gives = (refl, refl); written = tt }
+        go (inputs xs) e = record { answer = refused 3 (length text); outcome = cut (λ ins outs s. unfinished xs ins outs (subst (λ z. IsSignals (words_of z) ins outs) e s)); gives = (refl, refl); written = tt }
         go (outputs xs ys) e =
             let o : Sound (outputs xs ys) = subst Sound e so.sound in
             record {

@@ -1,10 +1,10 @@
 -- What can begin a signals text, and that a text comes to one thing only.
-use Rattle.std.proofs.Common.{◌≡◌, ℕ, zero, suc, ◌+◌, ◌<◌, ◌≤◌, ◌⊎◌, List, [], ◌∷◌, ◌++◌, map, length, sym, refl, ap, ◌∙◌, subst, ap₂, subst₂, inl, inr, ⊎_elim, append_assoc, append-nil, arith}
+use Rattle.std.proofs.Common.{◌≡◌, ℕ, ◌<◌, ◌≤◌, ◌⊎◌, List, [], ◌∷◌, ◌++◌, map, length, sym, refl, ap, ◌∙◌, subst, ap₂, subst₂, inl, inr, ⊎_elim, append_assoc, append-nil, arith}
 use Rattle.std.specs.List.{AllByRecursion as All}
 use Rattle.std.proofs.lemmas.List.{map-append, length-append, length-map}
 use Rattle.std.proofs.ByRecursion.{All-append}
-use Rattle.words.specs.Words.{Said, X', G', R', U', F', and', or', not', open', close', in', out', true', false', name', strange', Placed, at, said, place, Words}
-use Rattle.words.specs.Signals.{In, Distinct, listed, Is-signals, Begins, Formed, Fault, strange, misplaced, long, repeated, fifth, Told, Answer, served, refused, Fits, Outcome, store_short, text_long, reads, word_wrong, end_wrong}
+use Rattle.words.specs.Words.{Said, X', G', R', U', F', and', or', not', open', close', in', out', true', false', name', strange', Placed, at, said, Words}
+use Rattle.words.specs.Signals.{In, Distinct, listed, IsSignals, Begins, Formed, Fault, strange, misplaced, long, repeated, fifth, Told, Answer, served, refused, Outcome, store_short, text_long, reads, word_wrong, end_wrong}
 use Rattle.words.proofs.WordLaws.{words_one}
 
 -- ---- members
@@ -213,11 +213,11 @@ fault_stops ws (fifth {x = x} before four is n) b =
 -- ---- one outcome
 
 pub begins_part : (a b : List Said) → Begins (a ++ b) → Begins a
-begins_part a b h = (b ++ h.0, h.1, h.2, subst (λ l. Is-signals l h.1 h.2) (append_assoc a b h.0) h.3)
+begins_part a b h = (b ++ h.0, h.1, h.2, subst (λ l. IsSignals l h.1 h.2) (append_assoc a b h.0) h.3)
 
 -- a signals text begins itself
-pub whole_begins : (ws : List Said) (ins outs : List (List ℕ)) → Is-signals ws ins outs → Begins ws
-whole_begins ws ins outs h = ([], ins, outs, subst (λ l. Is-signals l ins outs) (sym (append-nil ws)) h)
+pub whole_begins : (ws : List Said) (ins outs : List (List ℕ)) → IsSignals ws ins outs → Begins ws
+whole_begins ws ins outs h = ([], ins, outs, subst (λ l. IsSignals l ins outs) (sym (append-nil ws)) h)
 
 map_one : (xs ys : List (List ℕ)) → map name' xs ≡ map name' ys → xs ≡ ys
 map_one xs ys e = sym (names_map xs) ∙ ap names e ∙ names_map ys
@@ -270,7 +270,7 @@ abbrev place_of : Placed → ℕ
 place_of (at w p) = p
 
 module _ (room : ℕ) (text : List ℕ) where
-  served_wrong : {ws : List Placed} {ins outs : List (List ℕ)} (before : List Placed) (w : Said) (p : ℕ) (rest : List Placed) {k : ℕ} → Words 0 text ws → Is-signals (map said ws) ins outs → Words 0 text (before ++ (at w p ∷ rest)) → Fault (map said before) w k → ⊥
+  served_wrong : {ws : List Placed} {ins outs : List (List ℕ)} (before : List Placed) (w : Said) (p : ℕ) (rest : List Placed) {k : ℕ} → Words 0 text ws → IsSignals (map said ws) ins outs → Words 0 text (before ++ (at w p ∷ rest)) → Fault (map said before) w k → ⊥
   served_wrong {ws} {ins} {outs} before w p rest x s y f =
       let e : ws ≡ (before ++ (at w p ∷ [])) ++ rest = words_one x y ∙ split_again before (at w p) rest in
       no_fault_within before w p rest f (subst (λ l. Begins (map said l)) e (whole_begins (map said ws) ins outs s))
@@ -308,7 +308,7 @@ module _ (room : ℕ) (text : List ℕ) where
       let e = listed_one ins ins' outs outs' (sym s.says ∙ ap (map said) (words_one x y) ∙ t.says) in
       ap₂ served e.0 e.1
   outcome_one (reads f x s) (word_wrong a w p r g y b t) = absurd (served_wrong a w p r x s y t.0)
-  outcome_one (reads {ins = ins} {outs = outs} f x s) (end_wrong g y b n) = absurd (n ins outs (subst (λ l. Is-signals (map said l) ins outs) (words_one x y) s))
+  outcome_one (reads {ins = ins} {outs = outs} f x s) (end_wrong g y b n) = absurd (n ins outs (subst (λ l. IsSignals (map said l) ins outs) (words_one x y) s))
   outcome_one (word_wrong a w p r f x b t) (store_short i) = absurd (omega (arith, f.roomy))
   outcome_one (word_wrong a w p r f x b t) (text_long i j) = absurd (omega (arith, f.short))
   outcome_one (word_wrong a w p r f x b t) (reads g y s) = absurd (served_wrong a w p r y s x t.0)
@@ -316,6 +316,6 @@ module _ (room : ℕ) (text : List ℕ) where
   outcome_one (word_wrong a w p r f x b t) (end_wrong g y bb n) = absurd (end_word a w p r y bb x t.0)
   outcome_one (end_wrong f x b n) (store_short i) = absurd (omega (arith, f.roomy))
   outcome_one (end_wrong f x b n) (text_long i j) = absurd (omega (arith, f.short))
-  outcome_one (end_wrong f x b n) (reads {ins = ins} {outs = outs} g y s) = absurd (n ins outs (subst (λ l. Is-signals (map said l) ins outs) (words_one y x) s))
+  outcome_one (end_wrong f x b n) (reads {ins = ins} {outs = outs} g y s) = absurd (n ins outs (subst (λ l. IsSignals (map said l) ins outs) (words_one y x) s))
   outcome_one (end_wrong f x b n) (word_wrong a w p r g y bb t) = absurd (end_word a w p r x b y t.0)
   outcome_one (end_wrong f x b n) (end_wrong g y bb m) = refl

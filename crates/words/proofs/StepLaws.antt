@@ -1,22 +1,21 @@
 -- The reader's table agrees with what a signals text is: a word that it takes goes on with a good beginning, and a word
 -- that it refuses has the number as its lowest fault.
-use Rattle.std.proofs.Common.{◌≡◌, ℕ, zero, suc, ◌+◌, ◌<◌, ◌≤◌, ◌⊎◌, List, [], ◌∷◌, ◌++◌, map, length, Ok, Err, Result, sym, refl, ap, ◌∙◌, subst, ap₂, subst₂, inl, inr, ⊎_elim, append_assoc, append-nil, arith}
+use Rattle.std.proofs.Common.{◌≡◌, ℕ, ◌+◌, ◌<◌, ◌≤◌, ◌⊎◌, List, [], ◌∷◌, ◌++◌, map, length, Ok, Err, Result, sym, refl, ap, ◌∙◌, subst, inl, inr, ⊎_elim, append_assoc, append-nil, arith}
 use Rattle.std.specs.List.{AllByRecursion as All}
-use Rattle.std.proofs.ByRecursion.{All-append, All-push}
+use Rattle.std.proofs.ByRecursion.{All-push}
 use Rattle.std.proofs.lemmas.List.{map-append, length-append, length_push}
 use Rattle.terms.specs.declared.refusal.Refusal.{Refusal}
 use Rattle.terms.specs.Refusals as refusals
 use Rattle.words.specs.declared.name.Name.{Name}
-use Rattle.words.specs.declared.signals.Stage.{Stage}
 use Rattle.words.specs.declared.signals.Stage.TheVariants.{Before, Inputs, Outputs}
 use Rattle.words.specs.declared.signals.Reader.{Reader}
 use Rattle.words.specs.Words.{Said, X', G', R', U', F', and', or', not', open', close', in', out', true', false', name', strange'}
-use Rattle.words.specs.Names.{padding, name_of, HoldsNames}
-use Rattle.words.specs.Signals.{In, Distinct, listed, Is-signals, Begins, Formed, Fault, strange, misplaced, long, repeated, fifth, Told}
-use Rattle.words.specs.Steps.{Sort, begins, turns, other, called, odd, sort, Step, entered, with_input, with_output, moved, by_stage}
+use Rattle.words.specs.Names.{HoldsNames}
+use Rattle.words.specs.Signals.{In, Distinct, listed, Begins, Formed, Fault, strange, misplaced, long, repeated, fifth, Told}
+use Rattle.words.specs.Steps.{Sort, begins, turns, other, called, odd, sort, Step, with_input, with_output, by_stage}
 use Rattle.words.proofs.PlainLaws.{Plain}
 use Rattle.words.proofs.NameLaws.{Entry, bad, many, new, entry}
-use Rattle.words.proofs.SignalLaws.{in_left, in_right, in_cases, in_names, in_map, names, names_map, names_listed, distinct_push, not_in, not_out, IsName, GoesIn, formed_first, formed_in, formed_out}
+use Rattle.words.proofs.SignalLaws.{in_left, in_right, in_cases, in_names, in_map, names, names_map, names_listed, distinct_push, not_in, not_out, GoesIn, formed_first, formed_in, formed_out}
 
 -- ---- where a reader stands: before `in`, behind some inputs, or behind all inputs and some outputs
 

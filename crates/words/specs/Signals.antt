@@ -1,5 +1,5 @@
 -- What a signals text is, and what any other is refused with.
--- Is-signals: the words are a signals text with these names. Begins: words that can begin one. Fault: what is wrong
+-- IsSignals: the words are a signals text with these names. Begins: words that can begin one. Fault: what is wrong
 -- with a word behind such a beginning. Told: the number that it is refused with. Outcome: what a text comes to.
 use Rattle.std.specs.Prelude.{◌≡◌, ℕ, ◌<◌, ◌≤◌, ◌⊎◌, List, [], ◌∷◌, ◌++◌, map, length, Ok, Err, Result, ◌≢◌}
 use Rattle.std.specs.List.{AllByRecursion as All}
@@ -26,7 +26,7 @@ listed ins outs = in' ∷ (map name' ins ++ (out' ∷ map name' outs))
 
 -- the words ws are a signals text with these inputs and outputs: at most four of each, of at most eight bytes, and none
 -- repeated
-pub record Is-signals (ws : List Said) (ins outs : List (List ℕ)) : Type 0 where
+pub record IsSignals (ws : List Said) (ins outs : List (List ℕ)) : Type 0 where
   pub says : ws ≡ listed ins outs
   pub few_in : length ins ≤ 4
   pub few_out : length outs ≤ 4
@@ -35,7 +35,7 @@ pub record Is-signals (ws : List Said) (ins outs : List (List ℕ)) : Type 0 whe
 
 -- words that can begin a signals text
 abbrev pub Begins : List Said → Type 0
-Begins ws = (rest : List Said) × (ins : List (List ℕ)) × (outs : List (List ℕ)) × Is-signals (ws ++ rest) ins outs
+Begins ws = (rest : List Said) × (ins : List (List ℕ)) × (outs : List (List ℕ)) × IsSignals (ws ++ rest) ins outs
 
 -- words that can begin one, if names could be long, many and repeated
 abbrev pub Formed : List Said → Type 0
@@ -72,9 +72,9 @@ pub record Fits (room : ℕ) (text : List ℕ) : Type 0 where
 pub data Outcome (room : ℕ) (text : List ℕ) : Answer → Type 0 where
   store_short : room < 8 → Outcome room text (refused 13 0)
   text_long : 8 ≤ room → 1024 < length text → Outcome room text (refused 1 0)
-  reads : {ws : List Placed} {ins outs : List (List ℕ)} → Fits room text → Words 0 text ws → Is-signals (map said ws) ins outs → Outcome room text (served ins outs)
+  reads : {ws : List Placed} {ins outs : List (List ℕ)} → Fits room text → Words 0 text ws → IsSignals (map said ws) ins outs → Outcome room text (served ins outs)
   word_wrong : (before : List Placed) (w : Said) (p : ℕ) (rest : List Placed) {k : ℕ} → Fits room text → Words 0 text (before ++ (at w p ∷ rest)) → Begins (map said before) → Told (map said before) w k → Outcome room text (refused k p)
-  end_wrong : {ws : List Placed} → Fits room text → Words 0 text ws → Begins (map said ws) → ((ins outs : List (List ℕ)) → ¬ Is-signals (map said ws) ins outs) → Outcome room text (refused 3 (length text))
+  end_wrong : {ws : List Placed} → Fits room text → Words 0 text ws → Begins (map said ws) → ((ins outs : List (List ℕ)) → ¬ IsSignals (map said ws) ins outs) → Outcome room text (refused 3 (length text))
 
 -- the result of a call gives an answer
 abbrev pub Gives : Result Signals Refusal → Answer → Type 0

@@ -1,6 +1,6 @@
 -- What the reader of a signals text does at each word, and at the end.
 -- entered: a name is entered. sort: how words are told apart. by_stage: the table of stages and words. finished: the end.
-use Rattle.std.specs.Prelude.{ℕ, ◌+◌, Bool, true, false, cond, List, Some, None, Ok, Err, Option, Result, nat_lt}
+use Rattle.std.specs.Prelude.{ℕ, ◌+◌, cond, List, Some, None, Ok, Err, Option, Result, nat_lt}
 use Rattle.register.specs.Places.{number, kept}
 use Rattle.terms.specs.declared.refusal.Refusal.{Refusal}
 use Rattle.terms.specs.declared.refusal.Refusal.TheVariants.{StrangeByte, Misplaced, BadName, TooManySignals}
@@ -10,7 +10,7 @@ use Rattle.words.specs.declared.signals.Stage.TheVariants.{Before, Inputs, Outpu
 use Rattle.words.specs.declared.signals.Reader.{Reader}
 use Rattle.words.specs.declared.signals.Signals.{Signals}
 use Rattle.words.specs.Words.{Said, X', G', R', U', F', and', or', not', open', close', in', out', true', false', name', strange'}
-use Rattle.words.specs.Names.{padding, name_of, same_name}
+use Rattle.words.specs.Names.{name_of, same_name}
 
 -- how many of its kind there are with a name that was given this number, the names in use being so many
 abbrev pub counted : ℕ → ℕ → ℕ → Option ℕ → Result ℕ Refusal

@@ -1,5 +1,5 @@
 -- The search stops at the first that is the same.
-use Rattle.std.proofs.Common.{◌≡◌, ◌<◌, length, Some, None, sym, arith}
+use Rattle.std.proofs.Common.{◌≡◌, Some, None, sym, arith}
 use Rattle.register.specs.Places.{found}
 use Rattle.register.proofs.PlaceLaws.{found_first, found_when, found_none, stops_first, goes_on}
 use Rattle.register.proofs.find.Goals as goal

@@ -1,4 +1,4 @@
-use Rattle.std.proofs.Common.{ℕ, ◌≤◌, arith, below_more}
+use Rattle.std.proofs.Common.{◌≤◌, below_more}
 use Rattle.book.specs.Agreeing.{AgreesAt}
 use Rattle.book.proofs.accept.records_agree.Goals as goal
 

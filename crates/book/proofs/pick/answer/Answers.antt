@@ -1,4 +1,4 @@
-use Rattle.std.proofs.Common.{◌≡◌, ◌^◌, ◌<◌, ◌≤◌, subst, arith, pow_pos}
+use Rattle.std.proofs.Common.{◌≡◌, ◌^◌, subst, arith, pow_pos}
 use Rattle.book.specs.Ranks.{rank_by, Highest}
 use Rattle.terms.proofs.BestLaws.{number_order, best_one, turn_takes, turn_keeps}
 use Rattle.book.proofs.pick.answer.Goals.{then-r-high, else-r-high}

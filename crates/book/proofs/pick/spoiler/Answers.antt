@@ -1,4 +1,4 @@
-use Rattle.std.proofs.Common.{◌≡◌, ◌^◌, ◌<◌, ◌≤◌, subst, arith, pow_pos}
+use Rattle.std.proofs.Common.{◌≡◌, ◌^◌, subst, arith, pow_pos}
 use Rattle.book.specs.Ranks.{worth, Lowest}
 use Rattle.terms.proofs.BestLaws.{reversed, number_order, best_one, turn_takes, turn_keeps}
 use Rattle.book.proofs.pick.spoiler.Goals.{then-r-low, else-r-low}

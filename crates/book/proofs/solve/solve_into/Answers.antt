@@ -1,4 +1,4 @@
-use Rattle.std.proofs.Common.{take, refl, arith}
+use Rattle.std.proofs.Common.{refl, arith}
 use Rattle.arena.proofs.SettleLaws.{in_time}
 use Rattle.arena.proofs.ControlLaws.{held_right, values_proper}
 use Rattle.arena.proofs.ValueLaws.{values}

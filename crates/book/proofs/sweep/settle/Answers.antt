@@ -1,4 +1,4 @@
-use Rattle.std.proofs.Common.{ℕ, ◌<◌, add-one, arith, below_more}
+use Rattle.std.proofs.Common.{add-one, arith, below_more}
 use Rattle.std.proofs.lemmas.Bool.Decides.{not_from_Decides}
 use Rattle.arena.specs.Held.{Settled}
 use Rattle.book.proofs.RankLaws.{ready}

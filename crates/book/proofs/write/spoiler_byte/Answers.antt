@@ -1,4 +1,4 @@
-use Rattle.std.proofs.Common.{get_or, ◌∙◌}
+use Rattle.std.proofs.Common.{◌∙◌}
 use Rattle.book.proofs.RankLaws.{count_top, count_under}
 use Rattle.book.proofs.WriteLaws.{ranked, count_is, spoiling_none, spoiling_is}
 use Rattle.book.proofs.write.spoiler_byte.Goals as goal

@@ -1,4 +1,4 @@
-use Rattle.std.proofs.Common.{◌≡◌, sym, refl, ap, arith}
+use Rattle.std.proofs.Common.{sym, ap, arith}
 use Rattle.arena.specs.Book.{status}
 use Rattle.book.proofs.RankLaws.{count_top, count_under}
 use Rattle.book.proofs.write.status_of.Goals as goal

@@ -1,4 +1,4 @@
-use Rattle.std.proofs.Common.{◌≡◌, ◌≤◌, length, ap, ◌∙◌, arith}
+use Rattle.std.proofs.Common.{◌≡◌, length, ap, ◌∙◌, arith}
 use Rattle.book.proofs.WriteLaws.{book_from, front_long}
 use Rattle.book.proofs.write.write_book.Goals as goal
 

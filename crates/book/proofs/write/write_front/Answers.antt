@@ -1,7 +1,7 @@
-use Rattle.std.proofs.Common.{◌≡◌, ◌/◌, ◌%◌, [], ◌∷◌, ◌++◌, sym, refl, ap, ◌∙◌, arith}
+use Rattle.std.proofs.Common.{◌/◌, ◌%◌, [], ◌∷◌, ◌++◌, ap, ◌∙◌, arith}
 use lib.Seq.{sets-eq}
 use Rattle.std.proofs.lemmas.List.{drop_all}
-use Rattle.arena.specs.Book.{front, status, rounds}
+use Rattle.arena.specs.Book.{status}
 use Rattle.book.specs.Ranks.{count_of}
 use Rattle.book.proofs.write.write_front.Goals as goal
 

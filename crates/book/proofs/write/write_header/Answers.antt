@@ -1,4 +1,4 @@
-use Rattle.std.proofs.Common.{◌≡◌, [], ◌∷◌, ◌++◌, sym, refl, ap, ◌∙◌, arith}
+use Rattle.std.proofs.Common.{[], ◌∷◌, ◌++◌, ap, ◌∙◌, arith}
 use lib.Seq.{sets-eq}
 use Rattle.std.proofs.lemmas.List.{drop_all}
 use Rattle.book.proofs.write.write_header.Goals as goal

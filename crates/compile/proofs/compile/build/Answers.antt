@@ -1,10 +1,9 @@
-use Rattle.std.proofs.Common.{◌≡◌, ◌<◌, [], length, sym, refl, ap, ◌∙◌, subst, arith}
+use Rattle.std.proofs.Common.{◌≡◌, ◌<◌, [], length, sym, ap, subst, arith}
 use Rattle.std.proofs.lemmas.List.{nil_from_length}
 use Rattle.std.proofs.lemmas.Bool.{eqb-true, eqb-false}
 use Rattle.rules.specs.Sets.{sets, too_wide}
 use Rattle.rules.specs.Progress.{list_of}
 use Rattle.compile.specs.Listed.{items}
-use Rattle.compile.specs.Known.{parts_in}
 use Rattle.compile.specs.Positions.{reason}
 use Rattle.compile.specs.Explored.{Explores}
 use Rattle.compile.proofs.ExpandLaws.{remembers_none}

@@ -1,5 +1,5 @@
-use Rattle.std.proofs.Common.{◌≡◌, ℕ, ◌/◌, ◌%◌, ◌^◌, ◌<◌, ◌≤◌, true, false, eqb, ltb, sym, refl, ap, ◌∙◌, arith, pow_mono}
-use Rattle.std.proofs.lemmas.Nat.{and_mask, shr_le, shr_below}
+use Rattle.std.proofs.Common.{◌≡◌, ◌/◌, ◌^◌, ◌≤◌, eqb, sym, ap, ◌∙◌, arith, pow_mono}
+use Rattle.std.proofs.lemmas.Nat.{and_mask}
 use Rattle.std.proofs.lemmas.Bool.{ne_eqb, le-ltb}
 use native.Mathlib.Nat.{div-eq_of_lt}
 use Rattle.rules.specs.Rule.{bit}

@@ -1,4 +1,4 @@
-use Rattle.std.proofs.Common.{sym, ap, ◌∙◌}
+use Rattle.std.proofs.Common.{ap, ◌∙◌}
 use Rattle.rules.specs.Sets.{sets, join_or, join_and}
 use Rattle.compile.specs.Listed.{items}
 use Rattle.compile.proofs.GivenLaws.{given, given_none, and_strict}

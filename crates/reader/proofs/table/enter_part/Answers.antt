@@ -1,4 +1,4 @@
-use Rattle.std.proofs.Common.{◌≡◌, ℕ, ◌≤◌, Some, None, Option, sym, ◌∙◌, arith}
+use Rattle.std.proofs.Common.{◌≡◌, ℕ, Some, None, Option, sym, ◌∙◌, arith}
 use Rattle.reader.proofs.EntryLaws.{over_enters, part_old, part_new}
 use Rattle.reader.proofs.table.enter_part.Goals as goal
 

@@ -1,5 +1,5 @@
 -- Past the end both bytes are 0.
-use Rattle.std.proofs.Common.{◌≡◌, ◌+◌, ◌≤◌, length, get_or, arith}
+use Rattle.std.proofs.Common.{◌+◌, ◌≤◌, length, arith}
 use Rattle.std.proofs.lemmas.List.{get_or_past}
 use Rattle.terms.proofs.bytes.word_at.Goals as goal
 

@@ -1,7 +1,7 @@
 -- Behind the blanks stands the end, a run or a mark.
-use Rattle.std.proofs.Common.{◌≡◌, ◌+◌, ◌-◌, ◌<◌, ◌≤◌, true, ◌&&◌, ◌||◌, eqb, leb, length, get_or, take, drop, Some, sym, ap, ◌∙◌, arith, rules}
+use Rattle.std.proofs.Common.{◌≡◌, ◌+◌, ◌-◌, ◌<◌, true, ◌&&◌, leb, length, get_or, take, drop, sym, ◌∙◌, arith}
 use Rattle.std.proofs.lemmas.Bool.{cond-true, cond-false, or_left}
-use Rattle.words.specs.Words.{Said, at, kind, letter, other, goes_on, words_from, spelled}
+use Rattle.words.specs.Words.{spelled}
 use Rattle.words.proofs.WordLaws.{from_end, from_mark, from_run, comes, none_some}
 use Rattle.words.proofs.reader.next_word.Goals as goal
 

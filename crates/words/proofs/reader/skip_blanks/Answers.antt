@@ -1,5 +1,5 @@
 -- A blank is passed.
-use Rattle.std.proofs.Common.{◌≡◌, length, sym, ◌∙◌, arith}
+use Rattle.std.proofs.Common.{sym, ◌∙◌, arith}
 use Rattle.std.proofs.lemmas.Bool.{cond-true}
 use Rattle.words.proofs.WordLaws.{from_blank}
 use Rattle.words.proofs.reader.skip_blanks.Goals as goal

@@ -1,5 +1,5 @@
 -- A text comes to one thing, and that is what is answered.
-use Rattle.std.proofs.Common.{◌≡◌, ◌≤◌, length, Err, sym, refl, ◌∙◌, subst, arith}
+use Rattle.std.proofs.Common.{◌≡◌, length, Err, sym, refl, subst, arith}
 use Rattle.terms.specs.declared.refusal.Refusal.TheVariants.{StoreTooShort, TextTooLong}
 use Rattle.words.specs.Signals.{Read, Fits, store_short, text_long, refused}
 use Rattle.words.proofs.ReadLaws.{one_answer, cleared, kept}

@@ -1,10 +1,10 @@
 -- The store is cleared at the start; each word is read, or is the first that is wrong; the end is the text's.
-use Rattle.std.proofs.Common.{◌≡◌, ◌≤◌, length, Err, sym, refl, ap, ◌∙◌, subst, arith}
+use Rattle.std.proofs.Common.{◌≤◌, length, Err, sym, ap, ◌∙◌, subst, arith}
 use Rattle.std.proofs.lemmas.Result.{err_from_is_err_and}
 use Rattle.words.specs.Steps.{by_stage, sorted, finished}
 use Rattle.words.specs.Signals.{Read}
 use Rattle.words.proofs.WordLaws.{first_said, end_said}
-use Rattle.words.proofs.ReadLaws.{Reading, start, taken, wrong, ended}
+use Rattle.words.proofs.ReadLaws.{start, taken, wrong, ended}
 use Rattle.words.proofs.signals.read_words.Goals as goal
 
 pub loop-names-init : goal.loop-names-init

@@ -1,6 +1,6 @@
 -- A question out of range is lost, and any other is put to the store.
 use Rattle.std.proofs.Common.{sym, ◌∙◌}
-use Rattle.compile.proofs.TableGameLaws.{answered_lost, answered_found, Asked, asked_within, asked_above}
+use Rattle.compile.proofs.TableGameLaws.{answered_lost, answered_found, asked_within, asked_above}
 use Rattle.compile.proofs.compiled.CompiledRuleGame.step.Goals as goal
 
 pub returns-then-is_outside : goal.returns-then-is_outside

@@ -1,8 +1,6 @@
-use Rattle.std.proofs.Common.{◌≡◌, ◌<◌, Some, None, sym, refl, ap, ◌∙◌, arith}
-use Rattle.rules.specs.declared.part.Part.TheVariants.{True, False, Literal, Next, Release, Both, Either}
+use Rattle.std.proofs.Common.{Some, sym, refl, ap, ◌∙◌, arith}
 use Rattle.rules.specs.Sets.{join_or, join_and}
-use Rattle.rules.specs.Progress.{list_of, own}
-use Rattle.compile.specs.Known.{parts_in}
+use Rattle.rules.specs.Progress.{own}
 use Rattle.compile.proofs.GivenLaws.{given, given_none, or_strict, and_strict, wide_left, wide_right, joined}
 use Rattle.compile.proofs.ExpandLaws.{list_at, duty_fits, remembers_more}
 use Rattle.compile.proofs.outline.Outline.+expanded_list_of.Goals as goal

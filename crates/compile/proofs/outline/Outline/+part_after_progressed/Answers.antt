@@ -1,7 +1,7 @@
-use Rattle.std.proofs.Common.{◌≡◌, cond, Some, None, sym, refl, ap, ◌∙◌, arith}
+use Rattle.std.proofs.Common.{cond, Some, sym, refl, ap, ◌∙◌, arith}
 use Rattle.rules.specs.Sets.{join_or, join_and}
-use Rattle.rules.specs.Progress.{list_of, part_after, own, of_true, of_false}
-use Rattle.compile.specs.Known.{parts_in, played}
+use Rattle.rules.specs.Progress.{own, of_true, of_false}
+use Rattle.compile.specs.Known.{played}
 use Rattle.compile.proofs.GivenLaws.{given, given_none, or_strict, and_strict, wide_left, wide_right, joined}
 use Rattle.compile.proofs.ExpandLaws.{after_at, duty_fits, remembers_more}
 use Rattle.compile.proofs.outline.Outline.+part_after_progressed.Goals as goal

@@ -1,8 +1,7 @@
-use Rattle.std.proofs.Common.{◌≡◌, ◌≤◌, length, get_or, Some, sym, ap, ◌∙◌, subst, arith}
+use Rattle.std.proofs.Common.{◌≤◌, length, Some, arith}
 use Rattle.std.proofs.lemmas.List.{get_or_past}
 use Rattle.rules.specs.declared.part.Part.TheVariants.{True}
 use Rattle.rules.specs.Parts.{duty_part}
-use Rattle.rules.specs.Progress.{part_after}
 use Rattle.compile.specs.Known.{parts_in, played}
 use Rattle.compile.proofs.GivenLaws.{given}
 use Rattle.compile.proofs.ExpandLaws.{after_at}

@@ -1,4 +1,4 @@
-use Rattle.std.proofs.Common.{◌≡◌, ℕ, length, drop, fold}
+use Rattle.std.proofs.Common.{◌≡◌, drop, fold}
 use Rattle.rules.specs.Sets.{sets}
 use Rattle.rules.specs.Progress.{list_of, part_after, list_after}
 use Rattle.compile.specs.Listed.{items, Tidy}

@@ -1,14 +1,10 @@
-use Rattle.std.proofs.Common.{◌≡◌, ◌-◌, ◌<◌, Some, fold, sym, refl, ap, ◌∙◌, arith}
+use Rattle.std.proofs.Common.{◌-◌, ◌<◌, fold, sym, ap, ◌∙◌, arith}
 use lib.Bits.{bit_and, and_le_l}
-use lib.Count.{count_trailing_zeros}
 use Rattle.rules.specs.Sets.{sets, members, join_and}
-use Rattle.rules.specs.Progress.{part_after}
-use Rattle.rules.specs.Parts.{duty_part}
 use Rattle.compile.specs.Listed.{items}
 use Rattle.compile.specs.Known.{parts_in, played, join_duty}
-use Rattle.compile.proofs.GivenLaws.{given, given_none, and_strict}
+use Rattle.compile.proofs.GivenLaws.{given_none, and_strict}
 use Rattle.compile.proofs.AfterLaws.{set_begins, duty_joined, duty_wide, no_duty_left}
-use Rattle.compile.proofs.MemberLaws.{trailing_below}
 use Rattle.compile.proofs.outline.Outline.set_after.Goals as goal
 
 pub loop-rest-init : goal.loop-rest-init

@@ -1,6 +1,5 @@
-use Rattle.std.proofs.Common.{◌≡◌, ℕ, ◌^◌, ◌<◌, fold}
-use Rattle.rules.specs.Sets.{sets, join_and, members}
-use Rattle.rules.specs.Parts.{duty_part}
+use Rattle.std.proofs.Common.{◌≡◌, ◌^◌, ◌<◌, fold}
+use Rattle.rules.specs.Sets.{sets, members}
 use Rattle.rules.specs.Progress.{list_of, part_after, set_after}
 use Rattle.compile.specs.Listed.{items, Tidy}
 use Rattle.compile.specs.Known.{played, Remembers, parts_in, join_duty}

@@ -1,4 +1,4 @@
-use Rattle.std.proofs.Common.{◌≡◌, ◌<◌, ◌≤◌, max, false, sym, ◌∙◌, arith}
+use Rattle.std.proofs.Common.{◌≡◌, max, false, sym, ◌∙◌, arith}
 use Rattle.arena.specs.Pair.{product, both}
 use Rattle.arena.specs.Arena.{beyond}
 use Rattle.arena.proofs.RangeLaws.{in_range}

@@ -1,4 +1,4 @@
-use Rattle.std.proofs.Common.{◌≡◌, Ok, ap, arith}
+use Rattle.std.proofs.Common.{Ok, ap, arith}
 use Rattle.run.proofs.run.Run.start.Goals as goal
 
 pub returns : goal.returns
