@@ -3,7 +3,7 @@ use Rattle.std.specs.Prelude.{◌≡◌, ℕ, suc, ◌+◌, ◌-◌, ◌<◌, �
 use Rattle.std.proofs.Math.Path.{refl, sym}
 use Rattle.std.proofs.Common.{ap, ap₂, ◌∙◌, arith, eqb}
 use Rattle.std.specs.Cmp.Lexicographic.{pointwise}
-use Rattle.std.specs.List.{AllByRecursion as All}
+use Rattle.std.specs.List.{AllByRecursion}
 use Rattle.std.proofs.lemmas.Slice.Eq.{slice_eq-Decides}
 use Rattle.std.proofs.lemmas.List.{length-take-le, take-append-drop}
 use Rattle.std.proofs.lemmas.Bool.{cond-true, cond-false, or_left, or_right, or_from}
@@ -44,7 +44,7 @@ same_whole e x we wx = same_from_decides _ _ (same_position_decides e x) (Decide
 
 module _ (e : Position) (we : Whole e) where
   -- a list that has a place is known, and its number is that of the place
-  pub place_known : (k : ℕ) (es : List Position) → All Whole es → place same_position e es < length es
+  pub place_known : (k : ℕ) (es : List Position) → AllByRecursion Whole es → place same_position e es < length es
       → (among (map list_in es) (list_in e) ≡ true) × (number_from (suc k) (map list_in es) (list_in e) ≡ suc (k + place same_position e es))
   unfolding number_from
   place_known k [] a h = absurd (omega arith)
@@ -62,7 +62,7 @@ module _ (e : Position) (we : Whole e) where
           (or_right _ _ r.0, cond-false _ (suc k) _ t ∙ r.1 ∙ omega arith)
 
   -- a list that has no place is not known
-  pub place_new : (es : List Position) → All Whole es → length es ≤ place same_position e es → among (map list_in es) (list_in e) ≡ false
+  pub place_new : (es : List Position) → AllByRecursion Whole es → length es ≤ place same_position e es → among (map list_in es) (list_in e) ≡ false
   place_new [] a h = refl
   place_new (x ∷ es) a h = go (place_new es a.1) (same_position e x) refl h
     where

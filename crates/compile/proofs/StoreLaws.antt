@@ -1,6 +1,6 @@
 -- A store of positions with a list more.
 use Rattle.std.proofs.Common.{◌≡◌, ℕ, suc, ◌+◌, ◌<◌, ◌≤◌, max, true, false, cond, ltb, ◌⊎◌, List, [], ◌∷◌, ◌++◌, map, length, get_or, take, drop, set, Some, None, Option, sym, refl, ap, ◌∙◌, subst, subst₂, inl, inr, arith}
-use Rattle.std.specs.List.{AllByRecursion as All}
+use Rattle.std.specs.List.{AllByRecursion}
 use Rattle.std.proofs.ByRecursion.{All-from_get_or}
 use Rattle.std.proofs.lemmas.List.{length-map, length-take-le, length-replicate, get_or-map, get_or-take, take-take, take-append-drop, take_more_set, map_push, set-append_left}
 use Rattle.std.proofs.lemmas.Bool.{cond-true, cond-false, lt-ltb, le-ltb, or_parts, cases_lt}
@@ -89,7 +89,7 @@ module _ (used : ℕ) (l : DutyList) (store : List Position) (stored : Stored us
       go (inl h) = h
       go (inr h) = absurd (full (omega arith))
 
-  all_whole : All Whole (take used store)
+  all_whole : AllByRecursion Whole (take used store)
   all_whole = All-from_get_or Whole (take used store) unused
       (λ k h. let lt : k < used = omega (arith, length-take-le used store fits) in subst Whole (sym (get_or-take used store k unused lt)) (stored.whole k lt))
 

@@ -2,7 +2,7 @@
 use Rattle.std.specs.Prelude.{◌≡◌, ℕ, zero, suc, ◌+◌, ◌-◌, ◌<◌, ◌≤◌, Bool, true, false, cond, not, ◌⊎◌, List, [], ◌∷◌, ◌++◌, map, length, take, replicate, Some, None, Ok, Err, Option, Result, nat_lt, slice_set, refl}
 use Rattle.std.proofs.Common.{sym, ap, ap₂, subst, subst₂, ◌∙◌, append_assoc, inl, inr, arith, eqb}
 use Rattle.std.specs.Cmp.Lexicographic.{pointwise}
-use Rattle.std.specs.List.{AllByRecursion as All}
+use Rattle.std.specs.List.{AllByRecursion}
 use Rattle.std.proofs.lemmas.Slice.Eq.{slice_eq-Decides}
 use Rattle.std.proofs.lemmas.List.{map-append, length-map, length-append, length-replicate, length-set, take_at, set_at}
 use Rattle.std.proofs.lemmas.Bool.{cases_lt, cond-true, cond-false, le-leb, lt-leb, lt-ltb, le-ltb, both_ways}
@@ -41,7 +41,7 @@ padding_one x y p q e = unpadded x y (8 - length x) (8 - length y) p q ((same_de
 
 module _ (x : List ℕ) where
   -- a name that is found is one of those stored
-  found : Plain x → (xs : List (List ℕ)) → All Plain xs → place same_name (padding x) (map padding xs) < length xs → In x xs
+  found : Plain x → (xs : List (List ℕ)) → AllByRecursion Plain xs → place same_name (padding x) (map padding xs) < length xs → In x xs
   found p [] a h = absurd (omega arith)
   found p (y ∷ xs) a h = go (found p xs a.1) (same_name (padding x) (padding y)) refl h
     where
@@ -84,7 +84,7 @@ module _ (xs : List (List ℕ)) (store : List Name) (holds : HoldsNames xs store
       ∙ sym (append_assoc (map padding xs) (padding x ∷ []) rest)
       ∙ ap₂ (λ l m. l ++ replicate m (padding [])) (sym (map-append padding xs (x ∷ []))) (sym count)
 
-  module _ (x : List ℕ) (used count p : ℕ) (is : used ≡ length xs) (plain : Plain x) (plains : All Plain xs) (more : count < 4 → used < length store) where
+  module _ (x : List ℕ) (used count p : ℕ) (is : used ≡ length xs) (plain : Plain x) (plains : AllByRecursion Plain xs) (more : count < 4 → used < length store) where
     -- the name is short, and given this number
     numbered : (o : Option ℕ) (ys : List Name) → number same_name (padding x) used store ≡ o → kept same_name (padding x) used store ≡ ys → Entry xs x count p (counted count used p o, ys) → Entry xs x count p (entered count used p (Some (padding x)) store)
     numbered o ys e f t = subst₂ (λ a b. Entry xs x count p (counted count used p a, b)) (sym e) (sym f) t

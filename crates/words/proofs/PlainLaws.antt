@@ -1,14 +1,14 @@
 -- The names of a text have no zero byte.
 use Rattle.std.specs.Prelude.{◌≡◌, ℕ, Bool, true, false, cond, List, [], ◌∷◌, map, drop, ◌==◌, ◌≢◌, refl}
 use Rattle.std.proofs.Common.{ap, subst}
-use Rattle.std.specs.List.{AllByRecursion as All}
+use Rattle.std.specs.List.{AllByRecursion}
 use Rattle.std.proofs.lemmas.Bool.{both_ways}
 use Rattle.words.specs.Words.{Said, X', G', R', U', F', and', or', not', open', close', in', out', true', false', name', strange', Placed, at, said, kind, goes_on, same, spelled, mark, Run, ends, stops, more, Words, none, gap, one, long, words_from}
 use Rattle.words.proofs.WordLaws.{letter_other, from_words}
 
 -- a name has no zero byte
 abbrev pub Plain : List ℕ → Type 0
-Plain x = All (λ b. b ≢ 0) x
+Plain x = AllByRecursion (λ b. b ≢ 0) x
 
 -- a word that, if it is a name, has no zero byte
 abbrev pub Plainly : Said → Type 0
@@ -72,7 +72,7 @@ plain_run (stops h) = tt
 plain_run (more {b = b} h y) = (λ z. both_ways (goes_on b) (ap goes_on z) h, plain_run y)
 
 -- the words of a text
-pub words_plain : {p : ℕ} {bs : List ℕ} {ws : List Placed} → Words p bs ws → All Plainly (map said ws)
+pub words_plain : {p : ℕ} {bs : List ℕ} {ws : List Placed} → Words p bs ws → AllByRecursion Plainly (map said ws)
 words_plain none = tt
 words_plain (gap h y) = words_plain y
 words_plain (one {b = b} h y) = (plain_mark b, words_plain y)

@@ -1,6 +1,6 @@
 -- What the reader keeps from word to word, and what its answer says of the text.
 use Rattle.std.proofs.Common.{◌≡◌, ℕ, ◌≤◌, true, false, List, [], ◌∷◌, ◌++◌, map, length, is_err, Ok, Err, Result, sym, refl, ap, ◌∙◌, subst, inl, append_assoc, append-nil, arith}
-use Rattle.std.specs.List.{AllByRecursion as All}
+use Rattle.std.specs.List.{AllByRecursion}
 use Rattle.std.proofs.lemmas.List.{map-append}
 use Rattle.std.proofs.lemmas.Bool.{true≢false, false≢true}
 use Rattle.terms.specs.declared.refusal.Refusal.{Refusal}
@@ -159,6 +159,6 @@ module _ (room : ℕ) (text : List ℕ) where
         go (Err d) a g w h = absurd (true≢false h)
 
 -- the names of a text that is served have no zero byte
-pub served_plain : (room : ℕ) (text : List ℕ) (ins outs : List (List ℕ)) → Outcome room text (served ins outs) → All Plain (ins ++ outs)
+pub served_plain : (room : ℕ) (text : List ℕ) (ins outs : List (List ℕ)) → Outcome room text (served ins outs) → AllByRecursion Plain (ins ++ outs)
 served_plain room text ins outs (reads {ws = ws} f w s) =
     all_from (ins ++ outs) (λ x i. all_in (name' x) Plainly (map said ws) (words_plain w) (subst (In (name' x)) (sym s.says) (output_read ins outs x i)) x refl)

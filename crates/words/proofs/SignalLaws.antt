@@ -1,6 +1,6 @@
 -- What can begin a signals text, and that a text comes to one thing only.
 use Rattle.std.proofs.Common.{◌≡◌, ℕ, ◌<◌, ◌≤◌, ◌⊎◌, List, [], ◌∷◌, ◌++◌, map, length, sym, refl, ap, ◌∙◌, subst, ap₂, subst₂, inl, inr, ⊎_elim, append_assoc, append-nil, arith}
-use Rattle.std.specs.List.{AllByRecursion as All}
+use Rattle.std.specs.List.{AllByRecursion}
 use Rattle.std.proofs.lemmas.List.{map-append, length-append, length-map}
 use Rattle.std.proofs.ByRecursion.{All-append}
 use Rattle.words.specs.Words.{Said, X', G', R', U', F', and', or', not', open', close', in', out', true', false', name', strange', Placed, at, said, Words}
@@ -24,7 +24,7 @@ module _ {A : Type 0} (x : A) where
   in_cases (y ∷ xs) ys (inl e) = inl (inl e)
   in_cases (y ∷ xs) ys (inr i) = ⊎_elim (λ h. inl (inr h)) inr (in_cases xs ys i)
 
-  pub all_in : (P : A → Type 0) (xs : List A) → All P xs → In x xs → P x
+  pub all_in : (P : A → Type 0) (xs : List A) → AllByRecursion P xs → In x xs → P x
   all_in P [] a i = absurd i
   all_in P (y ∷ xs) a (inl e) = subst P (sym e) a.0
   all_in P (y ∷ xs) a (inr i) = all_in P xs a.1 i
@@ -43,7 +43,7 @@ distinct_push x [] d h = (λ i. i, tt)
 distinct_push x (y ∷ xs) d h =
     (λ i. ⊎_elim d.0 (λ j. ⊎_elim (λ e. h (inl (sym e))) (λ n. n) j) (in_cases y xs (x ∷ []) i), distinct_push x xs d.1 (λ i. h (inr i)))
 
-pub all_from : {A : Type 0} {P : A → Type 0} (xs : List A) → ((x : A) → In x xs → P x) → All P xs
+pub all_from : {A : Type 0} {P : A → Type 0} (xs : List A) → ((x : A) → In x xs → P x) → AllByRecursion P xs
 all_from [] h = tt
 all_from (x ∷ xs) h = (h x (inl refl), all_from xs (λ y i. h y (inr i)))
 
@@ -106,15 +106,15 @@ GoesIn w = (w ≡ out') ⊎ IsName w
 abbrev Allowed : Said → Type 0
 Allowed w = (w ≡ in') ⊎ GoesIn w
 
-pub all_names : (xs : List (List ℕ)) → All IsName (map name' xs)
+pub all_names : (xs : List (List ℕ)) → AllByRecursion IsName (map name' xs)
 all_names [] = tt
 all_names (x ∷ xs) = ((x, refl), all_names xs)
 
-all_allowed : (xs : List (List ℕ)) → All Allowed (map name' xs)
+all_allowed : (xs : List (List ℕ)) → AllByRecursion Allowed (map name' xs)
 all_allowed [] = tt
 all_allowed (x ∷ xs) = (inr (inr (x, refl)), all_allowed xs)
 
-listed_allowed : (ins outs : List (List ℕ)) → All Allowed (listed ins outs)
+listed_allowed : (ins outs : List (List ℕ)) → AllByRecursion Allowed (listed ins outs)
 listed_allowed ins outs = (inl refl, All-append Allowed (map name' ins) (out' ∷ map name' outs) (all_allowed ins) (inr (inl refl), all_allowed outs))
 
 -- in and out are no names

@@ -1,6 +1,6 @@
 -- Where a run is found among stored names.
 use Rattle.std.proofs.Common.{◌≡◌, ℕ, zero, suc, ◌-◌, ◌<◌, ◌≤◌, Bool, true, false, ◌⊎◌, ◌↔◌, List, [], ◌∷◌, map, length, get_or, replicate, Some, None, Option, sym, refl, ap, ◌∙◌, subst, inl, inr, arith}
-use Rattle.std.specs.List.{AllByRecursion as All}
+use Rattle.std.specs.List.{AllByRecursion}
 use Rattle.std.proofs.lemmas.List.{length-map, get_or_default, get_or_append_left, get_or-map}
 use Rattle.std.proofs.ByRecursion.{All-get_or}
 use Rattle.std.proofs.lemmas.Bool.{cases_lt, cases_Bool, cond-true, cond-false, le-leb, lt-leb, both_ways}
@@ -78,7 +78,7 @@ module _ (xs : List (List ℕ)) (store : List Name) (holds : HoldsNames xs store
       ∙ get_or_append_left (map padding xs) (replicate (length store - length xs) (padding [])) (padding []) k (omega (arith, length-map xs padding))
       ∙ get_or-map padding xs k [] (padding []) h
 
-  module _ (plain : All Plain xs) (short : All (λ x. length x ≤ 8) xs) (distinct : Distinct xs) (run : List ℕ) (clear : Plain run) (used : ℕ) (is : used ≡ length xs) (k : ℕ) where
+  module _ (plain : AllByRecursion Plain xs) (short : AllByRecursion (λ x. length x ≤ 8) xs) (distinct : Distinct xs) (run : List ℕ) (clear : Plain run) (used : ℕ) (is : used ≡ length xs) (k : ℕ) where
     same_at : (i : ℕ) → i < length xs → get_or store i (padding []) ≡ padding run → get_or xs i [] ≡ run
     same_at i h e = padding_one (get_or xs i []) run (All-get_or Plain xs i [] h plain) clear (name_self (padding (get_or xs i [])) (padding run) (sym e ∙ at_name i h))
 

@@ -1,7 +1,7 @@
 -- The reader's table agrees with what a signals text is: a word that it takes goes on with a good beginning, and a word
 -- that it refuses has the number as its lowest fault.
 use Rattle.std.proofs.Common.{◌≡◌, ℕ, ◌+◌, ◌<◌, ◌≤◌, ◌⊎◌, List, [], ◌∷◌, ◌++◌, map, length, Ok, Err, Result, sym, refl, ap, ◌∙◌, subst, inl, inr, ⊎_elim, append_assoc, append-nil, arith}
-use Rattle.std.specs.List.{AllByRecursion as All}
+use Rattle.std.specs.List.{AllByRecursion}
 use Rattle.std.proofs.ByRecursion.{All-push}
 use Rattle.std.proofs.lemmas.List.{map-append, length-append, length_push}
 use Rattle.terms.specs.declared.refusal.Refusal.{Refusal}
@@ -48,9 +48,9 @@ Few (outputs xs ys) = (length xs ≤ 4) × (length ys ≤ 4)
 
 pub record Sound (s : Stand) : Type 0 where
   pub few : Few s
-  pub short : All (λ x. length x ≤ 8) (names_of s)
+  pub short : AllByRecursion (λ x. length x ≤ 8) (names_of s)
   pub apart : Distinct (names_of s)
-  pub plain : All Plain (names_of s)
+  pub plain : AllByRecursion Plain (names_of s)
 
 -- the names read are those among the words read
 names_read : (s : Stand) → names (words_of s) ≡ names_of s
@@ -69,7 +69,7 @@ stand_begins (inputs xs) o = (
     says = refl;
     few_in = o.few;
     few_out = omega arith;
-    short = subst (All (λ x. length x ≤ 8)) (sym (append-nil xs)) o.short;
+    short = subst (AllByRecursion (λ x. length x ≤ 8)) (sym (append-nil xs)) o.short;
     apart = subst Distinct (sym (append-nil xs)) o.apart;
   },
 )
@@ -202,9 +202,9 @@ module _ (names : List Name) (p : ℕ) where
         to = outputs xs [];
         sound = record {
           few = (o.few, omega arith);
-          short = subst (All (λ x. length x ≤ 8)) (sym all) o.short;
+          short = subst (AllByRecursion (λ x. length x ≤ 8)) (sym all) o.short;
           apart = subst Distinct (sym all) o.apart;
-          plain = subst (All Plain) (sym all) o.plain;
+          plain = subst (AllByRecursion Plain) (sym all) o.plain;
         };
         is = refl;
         words = refl;
@@ -265,9 +265,9 @@ module _ (names : List Name) (p : ℕ) where
         to = outputs xs (ys ++ (x ∷ []));
         sound = record {
           few = (o.few.0, omega (arith, length_push ys x));
-          short = subst (All (λ y. length y ≤ 8)) all (All-push (λ y. length y ≤ 8) (xs ++ ys) x o.short short);
+          short = subst (AllByRecursion (λ y. length y ≤ 8)) all (All-push (λ y. length y ≤ 8) (xs ++ ys) x o.short short);
           apart = subst Distinct all (distinct_push x (xs ++ ys) o.apart fresh);
-          plain = subst (All Plain) all (All-push Plain (xs ++ ys) x o.plain q);
+          plain = subst (AllByRecursion Plain) all (All-push Plain (xs ++ ys) x o.plain q);
         };
         is = ap (λ m. let r : Reader = record { stage = Outputs; inputs = length xs; outputs = m } in r) (sym (length_push ys x));
         words = name_out xs ys x;

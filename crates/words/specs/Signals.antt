@@ -2,7 +2,7 @@
 -- IsSignals: the words are a signals text with these names. Begins: words that can begin one. Fault: what is wrong
 -- with a word behind such a beginning. Told: the number that it is refused with. Outcome: what a text comes to.
 use Rattle.std.specs.Prelude.{◌≡◌, ℕ, ◌<◌, ◌≤◌, ◌⊎◌, List, [], ◌∷◌, ◌++◌, map, length, Ok, Err, Result, ◌≢◌}
-use Rattle.std.specs.List.{AllByRecursion as All}
+use Rattle.std.specs.List.{AllByRecursion}
 use Rattle.terms.specs.declared.refusal.Refusal.{Refusal}
 use Rattle.terms.specs.Refusals as refusals
 use Rattle.words.specs.declared.name.Name.{Name}
@@ -30,7 +30,7 @@ pub record IsSignals (ws : List Said) (ins outs : List (List ℕ)) : Type 0 wher
   pub says : ws ≡ listed ins outs
   pub few_in : length ins ≤ 4
   pub few_out : length outs ≤ 4
-  pub short : All (λ x. length x ≤ 8) (ins ++ outs)
+  pub short : AllByRecursion (λ x. length x ≤ 8) (ins ++ outs)
   pub apart : Distinct (ins ++ outs)
 
 -- words that can begin a signals text
