@@ -1,12 +1,12 @@
 #!/bin/sh
 # Counts the instructions that playbook and the plain Rust program execute on the worst diagrams, and prints their ratio.
-# The program is target/bin/playbook, or the one that PLAYBOOK names. Needs rustc, python3 and valgrind.
+# The program is crates/playbook/out/playbook, or the one that PLAYBOOK names. Needs rustc, python3 and valgrind.
 set -eu
 cd "$(dirname "$0")/.."
 out=target/bench
-ours=${PLAYBOOK:-target/bin/playbook}
+ours=${PLAYBOOK:-crates/playbook/out/playbook}
 mkdir -p "$out"
-if [ -z "${PLAYBOOK:-}" ]; then rt check playbook >"$out/check.log" || { tail -5 "$out/check.log"; exit 1; }; fi
+if [ -z "${PLAYBOOK:-}" ]; then (cd crates/playbook && rt check) >"$out/check.log" || { tail -5 "$out/check.log"; exit 1; }; fi
 rustc --edition 2024 -C opt-level=3 -o "$out/plain" bench/plain/plain.rs
 python3 bench/make.py "$out"
 

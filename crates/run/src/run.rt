@@ -1,6 +1,6 @@
 // A run between rounds, and an open round, as values that must be spent.
-ghost use Rattle.std.specs.Prelude.{◌≡◌};
-ghost use Rattle.run.specs.Calls.{readable, position_at, count_at, spoiling_at, open_at, consult_at, set_at, set_result};
+ghost use Rattle.std.specs.Prelude.{◌≡◌, IfOk};
+ghost use Rattle.run.specs.Calls.{IsNowhere, readable, position_at, count_at, spoiling_at, open_at, consult_at, set_at, set_result};
 ghost use Rattle.run.specs.Promise.{Started};
 
 use book::accept::accept;
@@ -23,9 +23,9 @@ pub struct Round {
 }
 
 impl Drop for Round {
-    // No open round may be forgotten: no caller can show what this asks.
+    // No open round may be forgotten: of a round that `open` gave, no caller can show what this asks.
     fn drop(self)
-        requires { ⊥ }
+        requires { IsNowhere self }
     {
         let Round {
             origin: _,
@@ -99,7 +99,8 @@ impl Run {
 
     // Opens the round of an input, with the book's answer as its output.
     pub fn open<G: Game>(self, game: &G, book: &[u8], input: u8) -> Result<Round, Declined>
-        ensures { result ≡ open_at (G.meaning game.now) book.now self.position input }
+        ensures value { result ≡ open_at (G.meaning game.now) book.now self.position input }
+        ensures stands { IfOk result (λ round. ¬ IsNowhere round) }
     {
         let Run { position } = self;
         if position == 0 {
@@ -168,9 +169,10 @@ impl Round {
         *output
     }
 
-    // No second round may be opened while one is open: no caller can show what this asks.
+    // No second round may be opened while one is open: of a round that `open` gave, no caller can show what this asks.
     pub fn open<G: Game>(self, _game: &G, _book: &[u8], _input: u8) -> Round
-        requires { ⊥ }
+        requires { IsNowhere self }
+        ensures { result ≡ self }
     {
         self
     }
