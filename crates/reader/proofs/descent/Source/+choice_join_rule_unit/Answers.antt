@@ -20,7 +20,7 @@ choice-returns-in_err-right-in-Or t c =
     let k = peeked (text_of src) c.loop-parts.left.behind.at w c.next_word-t.ensures.comes in
     let m = c.next_word-t.ensures.moves in
     let e = err_from_is_err_and c.from_residual-in_err-right-in-Or.result c.from_residual-in_err-right-in-Or.ensures.1 in
-    exits src choice n c.args.from c.args.parts.now c.join-in-Or.new.parts c.from_residual-in_err-right-in-Or.result e.1 e.2
+    exits src choice n c.args.from c.args.parts.now _ c.from_residual-in_err-right-in-Or.result e.1 e.2
     (choice_wrong src c.loop-parts.left w k m n (ap told c.in-Or.is) (c.loop-parts.invariant.3 (saids (text_of src) c.args.from.at) c.args.from c.args.parts.now (as_choice src n c.in_ok-left.ensures.0)) c.in_err-right-in-Or.ensures)
 
 pub choice-loop-parts-preserved : goal.choice-loop-parts-preserved
@@ -93,7 +93,7 @@ rule-returns-in_err-right-in-Release t c =
     let k = peeked (text_of src) c.in_ok-left.left.behind.at w c.next_word-t.ensures.comes in
     let m = c.next_word-t.ensures.moves in
     let e = err_from_is_err_and c.from_residual-in_err-right-in-Release.result c.from_residual-in_err-right-in-Release.ensures.1 in
-    exits src rule n c.args.from c.args.parts.now c.rule.new.parts c.from_residual-in_err-right-in-Release.result e.1 e.2
+    exits src rule n c.args.from c.args.parts.now _ c.from_residual-in_err-right-in-Release.result e.1 e.2
     (release_wrong src c.in_ok-left.left w k m n c.in_ok-inside-in-Release.inside (ap told c.in-Release.is) c.in_ok-inside-in-Release.ensures c.in_ok-left.ensures.0 c.in_err-right-in-Release.ensures)
 
 pub rule-returns-in_ok-right-in-Release : goal.rule-returns-in_ok-right-in-Release
