@@ -16,7 +16,7 @@ NAME = r"[^\s(){}\[\].,;:«»\"|\\@]+"
 TOKEN = re.compile(NAME)
 DECL = re.compile(r"^(\s*)((?:(?:pattern|unfoldable|abbrev|pub|axiom|data|record)\s+)*)(" + NAME + r")((?:\s*[({].*?[)}])?)\s*:(?!:)\s*(.*)$")
 # names that would fall together with a word of the kit's library
-APART = {"bit-and": "bit_of_and", "bit-or": "bit_of_or"}
+APART = {"bit-and": "bit_of_and", "bit-or": "bit_of_or", "Holds-at": "HoldsNumbered"}
 WORDS = {"use", "let", "module", "in", "where", "unfolding", "mod", "elim", "import"}
 
 
@@ -89,61 +89,36 @@ def declared(root):
 
 
 def foreign(text):
-    """The names that a file takes from the kit's library, where they do not stand for a name of this repository."""
+    """The names that a file takes from the kit's library or from what Rattle makes: they are not this repository's."""
     out = set()
     for m in re.finditer(r"use\s+([^\s;{]+?)\.\{([^}]*)\}", text):
-        first = m[1].split(".")
-        own = first[0] == "Rattle" and len(first) > 1 and first[1] in CRATES
-        made = "Goals" in first or "Given" in first or "TheVariants" in first
+        path = m[1].split(".")
+        own = path[0] == "Rattle" and len(path) > 1 and path[1] in CRATES
+        made = "Goals" in path or "Given" in path or "TheVariants" in path
         if not own or made:
-            for part in m[2].split(","):
-                words = part.split()
-                if words:
-                    out.add(words[0])
-                    if own is False and len(words) == 3:
-                        out.discard(words[2])
+            out |= {part.split()[0] for part in m[2].split(",") if part.split()}
     return out
 
 
-def turn_antt(text, new, path):
-    skip = foreign(text)
-    goal = is_goal_file(path)
-    out = []
-    for line in text.split("\n"):
-        held = set()
-        if goal:
-            m = re.match(r"^(?:abbrev )?(?:pub )?(" + NAME + r") : goal\.(" + NAME + r")", line)
-            if m:
-                held.add(m[1])
-            m = re.match(r"^(" + NAME + r")\s.*=|^(" + NAME + r")\s*=", line)
-        out.append(TOKEN.sub(lambda t: swap(line, t, new, skip, goal), line))
-    return "\n".join(out)
-
-
-def swap(line, t, new, skip, goal):
-    name = t[0]
-    if name not in new or name in skip:
+def swap(line, token, new, skip, goal):
+    """The new name for a token of a line, or the token: names of goals, texts in quotes and foreign names stay."""
+    name, before = token[0], line[:token.start()]
+    if name not in new or name in skip or before.count('"') % 2:
         return name
-    before = line[:t.start()]
-    # a path that Rattle makes
-    if goal and before.endswith("."):
-        head = re.search(r"(" + NAME + r"(?:\." + NAME + r")*)\.$", before)
-        first = head[1].split(".")[0] if head else ""
-        if first in ("goal", "Goals", "Given"):
-            return name
-    if '"' in before and before.count('"') % 2:
+    head = re.search(r"(" + NAME + r")(?:\." + NAME + r")*\.$", before)
+    if goal and head and head[1] in ("goal", "Goals", "Given"):
         return name
     return new[name]
 
 
-def turn_rt(text, new):
-    skip = foreign(text)
+def turned(text, new, path):
+    skip, goal = foreign(text), is_goal_file(path)
+    mark = "--" if path.endswith(".antt") else "//"
     out = []
     for line in text.split("\n"):
-        code, sep, said = line.partition("//")
-        code = TOKEN.sub(lambda t: swap(code, t, new, skip, False), code)
-        said = TOKEN.sub(lambda t: swap(said, t, new, skip, False), said)
-        out.append(code + sep + said)
+        code, sep, said = line.partition(mark)
+        out.append(sep.join(TOKEN.sub(lambda t: swap(part, t, new, skip, goal), part) for part in (code, said)) if sep
+                   else TOKEN.sub(lambda t: swap(line, t, new, skip, goal), line))
     return "\n".join(out)
 
 
@@ -169,9 +144,9 @@ def main(argv):
         return 0
     for path in texts(root):
         text = open(path, encoding="utf-8").read()
-        turned = turn_antt(text, new, path) if path.endswith(".antt") else turn_rt(text, new)
-        if turned != text:
-            open(path, "w", encoding="utf-8").write(turned)
+        after = turned(text, new, path)
+        if after != text:
+            open(path, "w", encoding="utf-8").write(after)
     return 0
 
 

@@ -10,7 +10,7 @@ use Rattle.rules.specs.Rule.{Rule, always, never, literal, next, release, both, 
 use Rattle.rules.specs.Table.{same_part, place, Entry, enter, parts_on}
 use Rattle.rules.proofs.TableLaws.{place_most}
 use Rattle.reader.specs.Entries as entries
-use Rattle.reader.specs.Entries.{Holds, HoldsAt, EntersPart, Enters}
+use Rattle.reader.specs.Entries.{Holds, HoldsNumbered, EntersPart, Enters}
 use Rattle.rules.specs.Same.{same_true, same_self}
 
 -- entering a part keeps what was there
@@ -134,7 +134,7 @@ module _ (store : List Part) (used : ℕ) (x : Part) (few : used ≤ 64) (room :
             ]
 
 -- a table behind an entry
-pub holds : (store : List Part) (used number : ℕ) (e : Entry) → HoldsAt store used number e → Holds store used e.table
+pub holds : (store : List Part) (used number : ℕ) (e : Entry) → HoldsNumbered store used number e → Holds store used e.table
 holds store used number e (entries.all a b n) = entries.all a b
 holds store used number e (entries.over a l) = entries.over a l
 
@@ -143,34 +143,34 @@ few_parts : (store : List Part) (used : ℕ) (ps : List Part) → used ≤ 64 �
 few_parts store used ps l e = omega (arith, ap length e, taken_few used store)
 
 -- with the parts over 64, it matters no more which part is entered
-over_stays : (store : List Part) (used number : ℕ) (ps : List Part) (x y : Part) → 64 < length ps → HoldsAt store used number (enter ps x) → HoldsAt store used number (enter ps y)
+over_stays : (store : List Part) (used number : ℕ) (ps : List Part) (x y : Part) → 64 < length ps → HoldsNumbered store used number (enter ps x) → HoldsNumbered store used number (enter ps y)
 over_stays store used number ps x y l (entries.all a b n) = absurd (omega (arith, few_parts store used (enter ps x).table a b, enter_grows ps x))
 over_stays store used number ps x y l (entries.over a b) = entries.over a (omega (arith, enter_grows ps y))
 
 -- a rule's parts are entered when those of its sides are, and then its own
 pub leaf_enters : {store after : List Part} {used used' number : ℕ} (f : Rule) (x : Part) → ((ps : List Part) → parts_on ps f ≡ enter ps x) → EntersPart store used x after used' number → Enters store used f after used' number
-leaf_enters {after = after} {used' = used'} {number = number} f x is h ps i = subst (HoldsAt after used' number) (sym (is ps)) (h ps i)
+leaf_enters {after = after} {used' = used'} {number = number} f x is h ps i = subst (HoldsNumbered after used' number) (sym (is ps)) (h ps i)
 
 pub one_enters : {store s after : List Part} {used u used' k number : ℕ} (f g : Rule) (x : ℕ → Part) → ((ps : List Part) → parts_on ps g ≡ enter (parts_on ps f).table (x (parts_on ps f).number))
     → Enters store used f s u k → EntersPart s u (x k) after used' number → Enters store used g after used' number
-one_enters {s = s} {after = after} {u = u} {used' = used'} {k = k} {number = number} f g x is h i ps j = subst (HoldsAt after used' number) (sym (is ps)) (go (h ps j))
+one_enters {s = s} {after = after} {u = u} {used' = used'} {k = k} {number = number} f g x is h i ps j = subst (HoldsNumbered after used' number) (sym (is ps)) (go (h ps j))
   where
-    go : HoldsAt s u k (parts_on ps f) → HoldsAt after used' number (enter (parts_on ps f).table (x (parts_on ps f).number))
-    go (entries.all a b n) = subst (λ m. HoldsAt after used' number (enter (parts_on ps f).table (x m))) n (i (parts_on ps f).table (entries.all a b))
+    go : HoldsNumbered s u k (parts_on ps f) → HoldsNumbered after used' number (enter (parts_on ps f).table (x (parts_on ps f).number))
+    go (entries.all a b n) = subst (λ m. HoldsNumbered after used' number (enter (parts_on ps f).table (x m))) n (i (parts_on ps f).table (entries.all a b))
     go (entries.over a b) = over_stays after used' number (parts_on ps f).table (x k) (x (parts_on ps f).number) b (i (parts_on ps f).table (entries.over a b))
 
 pub two_enter : {store s₁ s₂ after : List Part} {used u₁ u₂ used' k₁ k₂ number : ℕ} (f g h : Rule) (x : ℕ → ℕ → Part)
     → ((ps : List Part) → parts_on ps h ≡ enter (parts_on (parts_on ps f).table g).table (x (parts_on ps f).number (parts_on (parts_on ps f).table g).number))
     → Enters store used f s₁ u₁ k₁ → Enters s₁ u₁ g s₂ u₂ k₂ → EntersPart s₂ u₂ (x k₁ k₂) after used' number → Enters store used h after used' number
 two_enter {s₁ = s₁} {s₂ = s₂} {after = after} {u₁ = u₁} {u₂ = u₂} {used' = used'} {k₁ = k₁} {k₂ = k₂} {number = number} f g h x is p q r ps j =
-    subst (HoldsAt after used' number) (sym (is ps)) (go (p ps j) (q (parts_on ps f).table (holds s₁ u₁ k₁ (parts_on ps f) (p ps j))))
+    subst (HoldsNumbered after used' number) (sym (is ps)) (go (p ps j) (q (parts_on ps f).table (holds s₁ u₁ k₁ (parts_on ps f) (p ps j))))
   where
-    go : HoldsAt s₁ u₁ k₁ (parts_on ps f) → HoldsAt s₂ u₂ k₂ (parts_on (parts_on ps f).table g)
-        → HoldsAt after used' number (enter (parts_on (parts_on ps f).table g).table (x (parts_on ps f).number (parts_on (parts_on ps f).table g).number))
+    go : HoldsNumbered s₁ u₁ k₁ (parts_on ps f) → HoldsNumbered s₂ u₂ k₂ (parts_on (parts_on ps f).table g)
+        → HoldsNumbered after used' number (enter (parts_on (parts_on ps f).table g).table (x (parts_on ps f).number (parts_on (parts_on ps f).table g).number))
     go (entries.all a b m) (entries.all c d n) =
         let e = parts_on (parts_on ps f).table g in
-        subst (λ z. HoldsAt after used' number (enter e.table (x (parts_on ps f).number z))) n
-        (subst (λ z. HoldsAt after used' number (enter e.table (x z k₂))) m (r e.table (entries.all c d)))
+        subst (λ z. HoldsNumbered after used' number (enter e.table (x (parts_on ps f).number z))) n
+        (subst (λ z. HoldsNumbered after used' number (enter e.table (x z k₂))) m (r e.table (entries.all c d)))
     go (entries.over a b) (entries.all c d n) =
         absurd (omega (arith, b, parts_grow (parts_on ps f).table g, few_parts s₂ u₂ (parts_on (parts_on ps f).table g).table c d))
     go (entries.all a b m) (entries.over c d) = over_stays after used' number _ (x k₁ k₂) _ d (r (parts_on (parts_on ps f).table g).table (entries.over c d))

@@ -16,7 +16,7 @@ use Rattle.reader.specs.declared.read.Reading.{Reading}
 use Rattle.reader.specs.Grammar.{Names, Reads}
 use Rattle.reader.specs.Allowed.{start}
 use Rattle.reader.specs.Faults.{Answer, tree, refusal, Outcome}
-use Rattle.reader.specs.Entries.{HoldsAt}
+use Rattle.reader.specs.Entries.{HoldsNumbered}
 use Rattle.reader.specs.Steps.{text_of, names_of, saids, Stops}
 
 -- how many parts a rule has, and how many of them are duties
@@ -56,7 +56,7 @@ ReadRule known text store (Err e) = RuleText known text (refusal (refusals.numbe
 
 -- what the whole text comes to, before the rule's size is judged
 abbrev pub WholeComes : Source → List Part → Result Found Refusal → Type 0
-WholeComes s store (Ok r) = (f : Rule) × Reads (names_of s) 32 (saids (text_of s) 0) f × (r.behind.used ≤ 65) × HoldsAt store r.behind.used r.number (parts_of f)
+WholeComes s store (Ok r) = (f : Rule) × Reads (names_of s) 32 (saids (text_of s) 0) f × (r.behind.used ≤ 65) × HoldsNumbered store r.behind.used r.number (parts_of f)
 WholeComes s store (Err e) = Stops (names_of s) (start 32) (text_of s) 0 e
 
 -- a rule whose table a store holds fits, or is too large

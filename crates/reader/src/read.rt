@@ -6,7 +6,7 @@ ghost use Rattle.rules.specs.Rule.{Rule};
 ghost use Rattle.rules.specs.Parts.{is_duty, duty_number};
 ghost use Rattle.rules.specs.Table.{parts_of};
 ghost use Rattle.reader.specs.Names.{known};
-ghost use Rattle.reader.specs.Entries.{HoldsAt};
+ghost use Rattle.reader.specs.Entries.{HoldsNumbered};
 ghost use Rattle.reader.specs.Texts.{ReadRule, WholeComes, Sized, TextComes};
 
 use crate::descent::{Found, Point, Source, refuse};
@@ -81,7 +81,7 @@ pub fn clear_parts(parts: &mut [Part])
 // The numbers of a rule that was found, unless it is too large.
 fn measured(parts: &[Part], found: Found) -> Result<Reading, Refusal>
     requires { 64 ≤ length parts.now }
-    ensures { (f : Rule) → HoldsAt parts.now found.behind.used found.number (parts_of f) → Sized parts.now f result }
+    ensures { (f : Rule) → HoldsNumbered parts.now found.behind.used found.number (parts_of f) → Sized parts.now f result }
 {
     let used = found.behind.used;
     if used > MOST_PARTS {
