@@ -1,7 +1,7 @@
 -- What each call of a run does, with any bytes as its book.
--- IsNowhere: a round that stands at no position. readable: the book has the record. asked: a question. open_at, set_at:
--- an opening and a setting.
-use Rattle.std.specs.Prelude.{◌≡◌, ℕ, ◌^◌, Bool, cond, ◌&&◌, ◌||◌, List, length, Some, None, Ok, Err, Option, Result, ◌==◌, nat_le, nat_lt}
+-- IsNoRound: what no open round is. readable: the book has the record. asked: a question. open_at, set_at: an opening and
+-- a setting.
+use Rattle.std.specs.Prelude.{◌≡◌, ℕ, ◌^◌, ◌≤◌, Bool, cond, ◌&&◌, ◌||◌, List, length, Some, None, Ok, Err, Option, Result, ◌==◌, nat_le, nat_lt}
 use Rattle.terms.specs.declared.count.Count.{Count}
 use Rattle.terms.specs.declared.count.Count.TheVariants.{Lost}
 use Rattle.terms.specs.declared.refusal.Refusal.{Refusal}
@@ -13,10 +13,10 @@ use Rattle.run.specs.declared.run.Run.{Run}
 use Rattle.run.specs.declared.run.Round.{Round}
 use Rattle.run.specs.declared.run.Declined.{Declined}
 
--- the round stands at no position. No opening gives such a round and no setting makes one, so what asks for this of an
--- open round asks for what nobody can show
-abbrev pub IsNowhere : Round → Type 0
-IsNowhere r = r.origin ≡ 0
+-- the round stands at no position and bears an input that no game has. No opening gives such a round and no setting makes
+-- one, and no question tells the input, so what asks for this of an open round asks for what nobody can show
+abbrev pub IsNoRound : Round → Type 0
+IsNoRound r = (r.origin ≡ 0) × (16 ≤ r.input)
 
 -- whether the book has the record of p, with a status
 abbrev pub readable : List ℕ → ℕ → Bool

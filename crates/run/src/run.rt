@@ -1,6 +1,6 @@
 // A run between rounds, and an open round, as values that must be spent.
-ghost use Rattle.std.specs.Prelude.{◌≡◌, IfOk};
-ghost use Rattle.run.specs.Calls.{IsNowhere, readable, position_at, count_at, spoiling_at, open_at, consult_at, set_at, set_result};
+ghost use Rattle.std.specs.Prelude.{◌≡◌, ◌<◌, ◌≤◌, IfOk};
+ghost use Rattle.run.specs.Calls.{IsNoRound, readable, position_at, count_at, spoiling_at, open_at, consult_at, set_at, set_result};
 ghost use Rattle.run.specs.Promise.{Started};
 
 use book::accept::accept;
@@ -25,7 +25,7 @@ pub struct Round {
 impl Drop for Round {
     // No open round may be forgotten: of a round that `open` gave, no caller can show what this asks.
     fn drop(self)
-        requires { IsNowhere self }
+        requires { IsNoRound self }
     {
         let Round {
             origin: _,
@@ -100,7 +100,7 @@ impl Run {
     // Opens the round of an input, with the book's answer as its output.
     pub fn open<G: Game>(self, game: &G, book: &[u8], input: u8) -> Result<Round, Declined>
         ensures value { result ≡ open_at (G.meaning game.now) book.now self.position input }
-        ensures stands { IfOk result (λ round. ¬ IsNowhere round) }
+        ensures stands { IfOk result (λ round. (1 ≤ round.origin) × (round.input < 16)) }
     {
         let Run { position } = self;
         if position == 0 {
@@ -171,7 +171,7 @@ impl Round {
 
     // No second round may be opened while one is open: of a round that `open` gave, no caller can show what this asks.
     pub fn open<G: Game>(self, _game: &G, _book: &[u8], _input: u8) -> Round
-        requires { IsNowhere self }
+        requires { IsNoRound self }
         ensures { result ≡ self }
     {
         self
