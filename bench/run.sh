@@ -6,7 +6,7 @@ cd "$(dirname "$0")/.."
 out=target/bench
 ours=${PLAYBOOK:-crates/playbook/out/playbook}
 mkdir -p "$out"
-if [ -z "${PLAYBOOK:-}" ]; then (cd crates/playbook && rt check) >"$out/check.log" || { tail -5 "$out/check.log"; exit 1; }; fi
+if [ -z "${PLAYBOOK:-}" ]; then (cd crates/playbook && rt run -- solve --diagram data/bench.diagram) >"$out/check.log" || { tail -5 "$out/check.log"; exit 1; }; fi
 rustc --edition 2024 -C opt-level=3 -o "$out/plain" bench/plain/plain.rs
 python3 bench/make.py "$out"
 
