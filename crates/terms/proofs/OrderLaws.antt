@@ -1,8 +1,10 @@
 -- The order of counts.
-use Rattle.std.proofs.Common.{◌≡◌, ℕ, zero, suc, ◌+◌, Bool, true, false, eqb, leb, ◌⊎◌, Decides, refl, ap, inl, inr, arith}
-use Rattle.std.proofs.lemmas.Bool.{cases_lt, false≢true, leb-true, le-leb, eqb-true, eq-eqb}
+use Rattle.std.proofs.Common.{◌≡◌, ℕ, zero, suc, ◌+◌, ◌⊎◌, Decides, rules, refl, ap, inl, inr, arith}
+use Rattle.std.proofs.lemmas.Bool.{cases_lt}
 use Rattle.terms.specs.declared.count.Count.{Count}
 use Rattle.terms.specs.declared.count.Count.TheVariants.{Lost, Limited, Unlimited}
+use Rattle.std.specs.Ordering.{partial_le}
+use Rattle.terms.specs.contracts.count.CountPartialOrd.TheImpl
 use Rattle.terms.specs.Order.{AtMost, Below, plus}
 use Rattle.terms.proofs.BestLaws.{Order}
 
@@ -96,50 +98,17 @@ plus_at_most Unlimited Unlimited k h = tt
 pub count_order : Order AtMost
 count_order = record { same = at_most_refl; trans = at_most_trans; decided = cases_count; total = λ c d. below_at_most d c }
 
--- ---- decided by computing
+-- ---- the derived order
 
-abbrev pub at_most : Count → Count → Bool
-at_most Lost d = true
-at_most (Limited k) Lost = false
-at_most (Limited k) (Limited j) = leb k j
-at_most (Limited k) Unlimited = true
-at_most Unlimited Lost = false
-at_most Unlimited (Limited j) = false
-at_most Unlimited Unlimited = true
-
-pub at_most_decides : (c d : Count) → Decides (at_most c d) (AtMost c d)
+-- `<=` of counts is their order
+pub derived_order : (c d : Count) → Decides (partial_le TheImpl.partial_cmp-value.it c d) (AtMost c d)
 unfolding AtMost
-at_most_decides Lost d = ((λ _. tt), λ _. refl)
-at_most_decides (Limited k) Lost = ((λ e. false≢true e), λ h. absurd h)
-at_most_decides (Limited k) (Limited j) = ((λ e. leb-true k j e), λ h. le-leb k j h)
-at_most_decides (Limited k) Unlimited = ((λ _. tt), λ _. refl)
-at_most_decides Unlimited Lost = ((λ e. false≢true e), λ h. absurd h)
-at_most_decides Unlimited (Limited j) = ((λ e. false≢true e), λ h. absurd h)
-at_most_decides Unlimited Unlimited = ((λ _. tt), λ _. refl)
-
-abbrev pub one_more : Count → Count → Bool
-one_more Lost d = false
-one_more (Limited k) Lost = eqb k 0
-one_more (Limited k) (Limited j) = eqb k (j + 1)
-one_more (Limited k) Unlimited = false
-one_more Unlimited Lost = false
-one_more Unlimited (Limited j) = false
-one_more Unlimited Unlimited = true
-
-never : (c d : Count) → (c ≡ plus d 1 → ◌≡◌ {A = ℕ} 0 1) → Decides false (c ≡ plus d 1)
-never c d n = ((λ e. absurd (false≢true e)), λ h. absurd (let z = n h in omega arith))
-
-number_of : (k j : ℕ) → Decides (eqb k j) (Limited k ≡ Limited j)
-number_of k j = ((λ e. ap Limited (eqb-true k j e)), λ h. eq-eqb k j (cc))
-
-pub one_more_decides : (c d : Count) → Decides (one_more c d) (c ≡ plus d 1)
-unfolding plus
-one_more_decides Lost Lost = never Lost Lost (λ h. cc)
-one_more_decides Lost (Limited j) = never Lost (Limited j) (λ h. cc)
-one_more_decides Lost Unlimited = never Lost Unlimited (λ h. cc)
-one_more_decides (Limited k) Lost = number_of k 0
-one_more_decides (Limited k) (Limited j) = number_of k (j + 1)
-one_more_decides (Limited k) Unlimited = never (Limited k) Unlimited (λ h. cc)
-one_more_decides Unlimited Lost = never Unlimited Lost (λ h. cc)
-one_more_decides Unlimited (Limited j) = never Unlimited (Limited j) (λ h. cc)
-one_more_decides Unlimited Unlimited = ((λ _. refl), λ _. refl)
+derived_order Lost Lost = search rules
+derived_order Lost (Limited j) = search rules
+derived_order Lost Unlimited = search rules
+derived_order (Limited k) Lost = search rules
+derived_order (Limited k) (Limited j) = grind arith
+derived_order (Limited k) Unlimited = search rules
+derived_order Unlimited Lost = search rules
+derived_order Unlimited (Limited j) = search rules
+derived_order Unlimited Unlimited = search rules

@@ -6,15 +6,12 @@ ghost use Rattle.terms.specs.Bytes.{byte, word};
 pub fn byte_at(bytes: &[u8], k: usize) -> u8
     ensures { result ≡ byte bytes.now k }
 {
-    if k < bytes.len() { bytes[k] } else { 0 }
+    bytes.get(k).copied().unwrap_or(0)
 }
 
 // Two bytes as a number, the higher first.
 pub fn word_at(bytes: &[u8], k: usize) -> u16
     ensures { result ≡ word bytes.now k }
 {
-    if k >= bytes.len() {
-        return 0;
-    }
-    256 * bytes[k] as u16 + byte_at(bytes, k + 1) as u16
+    u16::from_be_bytes([byte_at(bytes, k), byte_at(bytes, k.saturating_add(1))])
 }

@@ -3,7 +3,7 @@ use crate::count::Count;
 use crate::refusal::Refusal;
 
 // A call: an opening with its input, a setting with its output, an ending, or a question.
-#[derive(Clone, Copy)]
+#[derive(Clone, Copy, PartialEq, Eq, Debug)]
 pub enum Call {
     Open(u8),
     Set(u8),
@@ -15,7 +15,7 @@ pub enum Call {
 }
 
 // What a call is told.
-#[derive(Clone, Copy)]
+#[derive(Clone, Copy, PartialEq, Eq, Debug)]
 pub enum Reply {
     // the book's output for the opened round
     Output(u8),
@@ -32,14 +32,14 @@ pub enum Reply {
 }
 
 // Where a run stands: its position, none where it is lost, and its count.
-#[derive(Clone, Copy)]
+#[derive(Clone, Copy, PartialEq, Eq, Debug)]
 pub struct Standing {
     pub position: Option<u8>,
     pub count: Count,
 }
 
 // One call of a row: what it was told, and where the run stands after it.
-#[derive(Clone, Copy)]
+#[derive(Clone, Copy, PartialEq, Eq, Debug)]
 pub struct Step {
     pub reply: Reply,
     pub standing: Standing,

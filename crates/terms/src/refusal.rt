@@ -2,34 +2,58 @@
 ghost use Rattle.std.specs.Prelude.{◌≡◌};
 ghost use Rattle.terms.specs.Refusals.{number, layer, place};
 
-// A refusal, with its place where that is not always 0.
-#[derive(Clone, Copy, Debug)]
+use std::fmt;
+use thiserror::Error;
+
+// A refusal, with its place where that is not always 0. It is printed as what is wrong, in one sentence.
+#[derive(Clone, Copy, PartialEq, Eq, Debug, Error)]
 pub enum Refusal {
+    #[error("the text is longer than 1024 bytes")]
     TextTooLong,
+    #[error("no word begins with this byte")]
     StrangeByte(usize),
+    #[error("this word is not allowed here, or the text ends too early")]
     Misplaced(usize),
+    #[error("the name is longer than eight letters, or is there already")]
     BadName(usize),
+    #[error("no signal has this name")]
     UnknownName(usize),
+    #[error("there are at most four inputs and four outputs")]
     TooManySignals(usize),
+    #[error("rules have no U and no F")]
     Unsupported(usize),
+    #[error("the rule is more than 32 levels deep")]
     TooDeep(usize),
+    #[error("the rule has more than 64 parts or 32 duties")]
     RuleTooLarge,
+    #[error("the rule is lost before the first round")]
     StartLost,
+    #[error("a list of more than 32 sets of duties is needed")]
     TooWide(usize),
+    #[error("the rule has more than 255 positions")]
     TooManyPositions,
+    #[error("a store is too short")]
     StoreTooShort,
+    #[error("a field or the length of the diagram is wrong")]
     DiagramField(usize),
+    #[error("an index of the diagram names no record or one reached before, or no chain reaches a record")]
     DiagramChain(usize),
+    #[error("a position of the diagram has two records for the same input and output")]
     DiagramRepeat(usize),
+    #[error("the game has more than 255 positions")]
     SizeZero,
+    #[error("the book is not the book of this game")]
     NotThisBook,
+    #[error("there is no such input or output")]
     OutOfRange,
+    #[error("the run is lost")]
     RunLost,
+    #[error("the game did not settle within 256 sweeps")]
     TooManySweeps,
 }
 
 // The part of the product that refuses.
-#[derive(Clone, Copy)]
+#[derive(Clone, Copy, PartialEq, Eq, Debug)]
 pub enum Layer {
     Text,
     Signals,
@@ -40,6 +64,23 @@ pub enum Layer {
     Game,
     Run,
     Solve,
+}
+
+impl fmt::Display for Layer {
+    fn fmt<W: fmt::Write>(&self, f: &mut fmt::Formatter<W>) -> fmt::Result {
+        let name = match self {
+            Layer::Text => "text",
+            Layer::Signals => "signals",
+            Layer::Rule => "rule",
+            Layer::Compile => "compile",
+            Layer::Store => "store",
+            Layer::Diagram => "diagram",
+            Layer::Game => "game",
+            Layer::Run => "run",
+            Layer::Solve => "solve",
+        };
+        write!(f, "{name}")
+    }
 }
 
 impl Refusal {
@@ -76,26 +117,19 @@ impl Refusal {
         ensures { result ≡ layer self.now }
     {
         match self {
-            Refusal::TextTooLong => Layer::Text,
-            Refusal::StrangeByte(_) => Layer::Text,
-            Refusal::Misplaced(_) => Layer::Text,
-            Refusal::BadName(_) => Layer::Signals,
-            Refusal::UnknownName(_) => Layer::Rule,
-            Refusal::TooManySignals(_) => Layer::Signals,
-            Refusal::Unsupported(_) => Layer::Rule,
-            Refusal::TooDeep(_) => Layer::Rule,
-            Refusal::RuleTooLarge => Layer::Compile,
-            Refusal::StartLost => Layer::Compile,
-            Refusal::TooWide(_) => Layer::Compile,
-            Refusal::TooManyPositions => Layer::Compile,
+            Refusal::TextTooLong | Refusal::StrangeByte(_) | Refusal::Misplaced(_) => Layer::Text,
+            Refusal::BadName(_) | Refusal::TooManySignals(_) => Layer::Signals,
+            Refusal::UnknownName(_) | Refusal::Unsupported(_) | Refusal::TooDeep(_) => Layer::Rule,
+            Refusal::RuleTooLarge
+            | Refusal::StartLost
+            | Refusal::TooWide(_)
+            | Refusal::TooManyPositions => Layer::Compile,
             Refusal::StoreTooShort => Layer::Store,
-            Refusal::DiagramField(_) => Layer::Diagram,
-            Refusal::DiagramChain(_) => Layer::Diagram,
-            Refusal::DiagramRepeat(_) => Layer::Diagram,
+            Refusal::DiagramField(_) | Refusal::DiagramChain(_) | Refusal::DiagramRepeat(_) => {
+                Layer::Diagram
+            }
             Refusal::SizeZero => Layer::Game,
-            Refusal::NotThisBook => Layer::Run,
-            Refusal::OutOfRange => Layer::Run,
-            Refusal::RunLost => Layer::Run,
+            Refusal::NotThisBook | Refusal::OutOfRange | Refusal::RunLost => Layer::Run,
             Refusal::TooManySweeps => Layer::Solve,
         }
     }
@@ -105,27 +139,18 @@ impl Refusal {
         ensures { result ≡ place self.now }
     {
         match self {
-            Refusal::TextTooLong => 0,
-            Refusal::StrangeByte(at) => *at,
-            Refusal::Misplaced(at) => *at,
-            Refusal::BadName(at) => *at,
-            Refusal::UnknownName(at) => *at,
-            Refusal::TooManySignals(at) => *at,
-            Refusal::Unsupported(at) => *at,
-            Refusal::TooDeep(at) => *at,
-            Refusal::RuleTooLarge => 0,
-            Refusal::StartLost => 0,
-            Refusal::TooWide(at) => *at,
-            Refusal::TooManyPositions => 0,
-            Refusal::StoreTooShort => 0,
-            Refusal::DiagramField(at) => *at,
-            Refusal::DiagramChain(at) => *at,
-            Refusal::DiagramRepeat(at) => *at,
-            Refusal::SizeZero => 0,
-            Refusal::NotThisBook => 0,
-            Refusal::OutOfRange => 0,
-            Refusal::RunLost => 0,
-            Refusal::TooManySweeps => 0,
+            Refusal::StrangeByte(at)
+            | Refusal::Misplaced(at)
+            | Refusal::BadName(at)
+            | Refusal::UnknownName(at)
+            | Refusal::TooManySignals(at)
+            | Refusal::Unsupported(at)
+            | Refusal::TooDeep(at)
+            | Refusal::TooWide(at)
+            | Refusal::DiagramField(at)
+            | Refusal::DiagramChain(at)
+            | Refusal::DiagramRepeat(at) => *at,
+            _ => 0,
         }
     }
 }

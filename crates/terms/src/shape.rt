@@ -1,7 +1,7 @@
 // The numbers in a diagram's header.
 
 // Signals, positions, start and records of a drawn game.
-#[derive(Clone, Copy)]
+#[derive(Clone, Copy, PartialEq, Eq, Debug)]
 pub struct Shape {
     pub inputs: u8,
     pub outputs: u8,

@@ -1,7 +1,0 @@
--- Past the end the byte is 0.
-use Rattle.std.proofs.Common.{sym}
-use Rattle.std.proofs.lemmas.List.{get_or_past}
-use Rattle.terms.proofs.bytes.byte_at.Goals as goal
-
-pub returns-else-k-bytes : goal.returns-else-k-bytes
-returns-else-k-bytes c = sym (get_or_past c.args.bytes.now c.args.k 0 c.if-k-bytes.false)
