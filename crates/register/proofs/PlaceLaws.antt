@@ -1,8 +1,8 @@
 -- Where the first entry that passes no test stands, and what a register gives.
 use Rattle.std.proofs.Common.{◌≡◌, ℕ, zero, suc, ◌+◌, ◌<◌, ◌≤◌, Bool, true, false, cond, not, ltb, leb, ◌≢◌, ◌⊎◌, ◌↔◌, List, [], ◌∷◌, length, get_or, take, set, Some, None, Option, sym, refl, ap, ◌∙◌, subst, subst₂, inl, inr, arith, length-take-le, get_or-set_other, get_or-take, get_or-set_same}
 use Rattle.std.specs.List.{prefix_len}
-use Rattle.std.proofs.lemmas.List.{length-set, set_past, get_or_read}
-use Rattle.std.proofs.lemmas.Bool.{cond-true, cond-false, lt-ltb, le-ltb, le-leb, lt-leb, cases_lt, not-true, not-false, both_ways}
+use Rattle.std.proofs.lemmas.List.{length-set, set_past}
+use Rattle.std.proofs.lemmas.Bool.{cond-true, cond-false, lt-ltb, le-ltb, le-leb, cases_lt, not-true, not-false}
 use Rattle.std.proofs.lemmas.Bool.Decides.{same_from_decides}
 use Rattle.register.specs.Places.{place, found, number, kept, First, Apart, Entered, used_after}
 
@@ -69,34 +69,6 @@ module _ {E : Type 0} (same : E → E → Bool) where
             let lt = f.within in
             cond-true _ _ _ (lt-ltb (place same e xs) (length xs) (omega arith)) ∙ ap Some is
 
-    -- a result that is what is found
-    pub found_when : (r : Option ℕ) → r ≡ found same e xs → (k : ℕ) → (r ≡ Some k) ↔ First same e (length xs) xs k
-    found_when r is k = (λ h. (found_first k).0 (sym is ∙ h), λ f. is ∙ (found_first k).1 f)
-
-    -- a search that stops at an entry which is the same, behind such that are not
-    pub stops_first : (i : ℕ) (x : E) → i < length xs → x ≡ get_or xs i x → same e x ≡ true → ((k : ℕ) (d : E) → k < i → same e (get_or xs k d) ≡ false) → First same e (length xs) xs i
-    stops_first i x lt is h b = record {
-      within = lt;
-      alike = λ d. ap (same e) (sym (get_or_read xs i x lt is d)) ∙ h;
-      before = λ k d l. b k d l;
-    }
-
-    -- a search that goes on behind one that is not
-    pub goes_on : (i : ℕ) (x : E) → i < length xs → x ≡ get_or xs i x → same e x ≡ false → ((k : ℕ) (d : E) → k < i → same e (get_or xs k d) ≡ false) → (k : ℕ) (d : E) → k < i + 1 → same e (get_or xs k d) ≡ false
-    goes_on i x lt is h b k d l = go (cases_lt k i)
-      where
-        go : (k < i) ⊎ (i ≤ k) → same e (get_or xs k d) ≡ false
-        go (inl m) = b k d m
-        go (inr m) = let at : k ≡ i = omega arith in subst (λ j. same e (get_or xs j d) ≡ false) (sym at) (ap (same e) (sym (get_or_read xs i x lt is d)) ∙ h)
-
-    -- nothing is found where no entry is the same
-    pub found_none : ((k : ℕ) (d : E) → k < length xs → same e (get_or xs k d) ≡ false) → found same e xs ≡ None
-    found_none h = go (cases_lt (place same e xs) (length xs))
-      where
-        go : (place same e xs < length xs) ⊎ (length xs ≤ place same e xs) → found same e xs ≡ None
-        go (inl l) = absurd (both_ways _ (h (place same e xs) e l) ((place_first l).alike e))
-        go (inr l) = cond-false _ _ _ (le-ltb _ _ l)
-
   module _ (e : E) (used : ℕ) (xs : List E) (w : used ≤ length xs) where
     -- the first among the entries in use
     pub in_use : (k : ℕ) → First same e (length (take used xs)) (take used xs) k → First same e used xs k
@@ -140,13 +112,6 @@ module _ {E : Type 0} (same : E → E → Bool) where
     -- no entry before the place is the same
     before_place : (i : ℕ) (d : E) → i < used → i < place same e (take used xs) → same e (get_or xs i d) ≡ false
     before_place i d u h = not-true _ (ap (λ y. not (same e y)) (sym (get_or-take used xs i d u)) ∙ leading_before (λ y. not (same e y)) (take used xs) i d h)
-
-    -- the ways of a register: it is overfull, the same is there, there is no room, or e is written behind
-    pub number_over : length xs < used → number same e used xs ≡ None
-    number_over h = cond-false _ _ _ (lt-leb used (length xs) h)
-
-    pub kept_over : length xs < used → kept same e used xs ≡ xs
-    kept_over h = cond-false _ _ _ (lt-leb used (length xs) h)
 
     pub number_there : used ≤ length xs → place same e (take used xs) < used → number same e used xs ≡ Some (place same e (take used xs))
     number_there w h = cond-true _ _ _ (le-leb used (length xs) w) ∙ cond-true _ _ _ (lt-ltb _ used h)
@@ -237,10 +202,6 @@ module _ {E : Type 0} (same : E → E → Bool) where
           again = λ g j h s. subst (λ m. number same g m ys ≡ r) (sym uses) (number_first g n ys k w (first_alike g n ys k h f) ∙ sym o);
           apart = λ b. subst (λ m. Apart same m ys) (sym uses) (a b);
         }
-
-      -- the ways of a register: the store is overfull, the same is there, there is no room, or e is written behind
-      pub over_entered : length xs < used → Entered same e used xs None xs
-      over_entered h = none_entered None xs used (sym (number_over e used xs h)) (sym (kept_over e used xs h)) refl refl refl refl
 
       pub full_entered : used ≡ length xs → used ≤ place same e (take used xs) → Entered same e used xs None xs
       full_entered w h = none_entered None xs used (sym (number_full e used xs w h)) (sym (kept_full e used xs w h)) refl refl refl refl

@@ -23,22 +23,14 @@ pub fn find<E: Same>(entries: &[E], e: &E) -> Option<usize>
     ensures value { result ≡ found E.same e.now entries.now }
     ensures first { (k : ℕ) → (result ≡ Some k) ↔ First E.same e.now (length entries.now) entries.now k }
 {
-    for (i, x) in entries.iter().enumerate() {
-        if e.same_as(x) {
-            return Some(i);
-        }
-    }
-    None
+    entries.iter().position(|x| e.same_as(x))
 }
 
 // Gives `e` its number, and writes it behind the `used` entries where none of them is the same and there is room.
 fn find_or_add<E: Same + Copy>(store: &mut [E], used: usize, e: E) -> Option<usize>
     ensures { Entered E.same e used store.old result store.new }
 {
-    if used > store.len() {
-        return None;
-    }
-    if let Some(k) = find(&store[..used], &e) {
+    if let Some(k) = find(store.get(..used)?, &e) {
         return Some(k);
     }
     if used == store.len() {
@@ -63,11 +55,8 @@ impl<'s, E: Same + Copy> Register<'s, E> {
         ensures used { self.new.used ≡ used_after self.old.used result }
         ensures lender { self.new.store.ghost_name ≡ self.old.store.ghost_name }
     {
-        let used = self.used;
-        let k = find_or_add(self.store, used, e)?;
-        if k >= used {
-            self.used = used + 1;
-        }
+        let k = find_or_add(self.store, self.used, e)?;
+        self.used = self.used.max(k + 1);
         Some(k)
     }
 }
