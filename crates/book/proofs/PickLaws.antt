@@ -1,41 +1,57 @@
--- The pick of an output and of an input: by ranks it is the pick by counts.
-use Rattle.std.proofs.Common.{◌≡◌, ℕ, zero, suc, ◌<◌, ◌≤◌, List, get_or, inl, inr, arith}
-use Rattle.std.proofs.lemmas.Bool.{cases_eq, cases_lt}
-use Rattle.arena.specs.Arena.{Arena}
-use Rattle.terms.specs.Order.{AtMost, Most, Least}
-use Rattle.terms.proofs.BestLaws.{best_map}
-use Rattle.book.specs.Ranks.{counts_of, Ready, Highest, Lowest, greatest}
-use Rattle.book.proofs.RankLaws.{rank_order, rank_below}
+-- The order of a type is one by which a pick finds the best.
+use Rattle.std.proofs.Common.{rules, ◌≡◌, true, false, Some, Option, ap, ◌∙◌, sym, inl, inr}
+use Rattle.std.proofs.lemmas.Bool.{cases_Bool, true≢false}
+use Rattle.std.proofs.lemmas.Cmp.{upto, tied_itself}
+use Rattle.std.specs.Cmp.{IsTotalOrder}
+use Rattle.std.specs.declared.cmp.Ordering.{Ordering}
+use Rattle.std.specs.declared.cmp.Ordering.TheVariants.{Less, Equal, Greater}
+use Rattle.std.specs.Ordering.{is_le, is_gt, is_some_and, ordering_reverse}
+use Rattle.terms.proofs.BestLaws.{Order}
+use Rattle.book.specs.Picking.{UpTo}
 
-greatest_bound : (f : ℕ → ℕ) (m b : ℕ) → ((z : ℕ) → z < m → f z ≤ b) → greatest f m ≤ b
-greatest_bound f zero b h = omega arith
-greatest_bound f (suc m) b h = omega (arith, h m (omega arith), greatest_bound f m b (λ z l. h z (omega arith)))
+le_of : (o : Ordering) → is_gt o ≡ false → is_le o ≡ true
+le_of Less e = search rules
+le_of Equal e = search rules
+le_of Greater e = absurd (true≢false e)
 
-greatest_above : (f : ℕ → ℕ) (m z : ℕ) → z < m → f z ≤ greatest f m
-greatest_above f zero z l = absurd (omega arith)
-greatest_above f (suc m) z l = elim (cases_eq z m) [ inl e ↦ rw e (omega arith) | inr ne ↦ omega (arith, greatest_above f m z (omega arith)) ]
+gt_of : (o : Ordering) → is_le o ≡ true → is_gt o ≡ false
+gt_of Less e = search rules
+gt_of Equal e = search rules
+gt_of Greater e = absurd (true≢false (sym e))
 
--- the highest is the greatest
-pub highest_greatest : (f : ℕ → ℕ) (m y : ℕ) → Highest f m y → f y ≡ greatest f m
-highest_greatest f m y h = omega (arith, greatest_bound f m (f y) h.best, greatest_above f m y h.here)
+back_of : (o : Ordering) → is_le o ≡ false → is_le (ordering_reverse o) ≡ true
+back_of Less e = absurd (true≢false e)
+back_of Equal e = absurd (true≢false e)
+back_of Greater e = search rules
 
-module _ {a : Arena} {top : ℕ} {rs : List ℕ} (r : Ready a top rs) where
-  more : (q s : ℕ) → get_or rs q 0 ≤ get_or rs s 0 → AtMost (counts_of top rs q) (counts_of top rs s)
-  more q s l = rank_order top (get_or rs q 0) (get_or rs s 0) l (r.within s)
+le_of_not : (o : Ordering) → (o ≡ Greater → ⊥) → is_le o ≡ true
+le_of_not Less n = search rules
+le_of_not Equal n = search rules
+le_of_not Greater n = absurd (n (search rules))
 
-  less : (q s : ℕ) → AtMost (counts_of top rs q) (counts_of top rs s) → get_or rs q 0 ≤ get_or rs s 0
-  less q s h = elim (cases_lt (get_or rs s 0) (get_or rs q 0)) [
-    | inl l ↦ absurd (rank_below top (get_or rs s 0) (get_or rs q 0) l (r.within q) h)
-    | inr l ↦ l
-  ]
+module _ {A : Type 0} (C : A → A → Option Ordering) (R : A → A → Ordering) (same : (x y : A) → C x y ≡ Some (R x y)) where
+  le_is : (x y : A) → is_le (R x y) ≡ true → UpTo C x y
+  le_is x y e = ap (is_some_and is_le) (same x y) ∙ e
 
-  -- the move f y of the highest rank counts most, and the other way round
-  pub most_from : (f : ℕ → ℕ) (m y : ℕ) → Highest (λ z. get_or rs (f z) 0) m y → Most m (λ z. counts_of top rs (f z)) y
-  most_from f m y = best_map (λ i j _ _. more (f i) (f j)) (λ i j _ _. less (f i) (f j))
+  is_le_of : (x y : A) → UpTo C x y → is_le (R x y) ≡ true
+  is_le_of x y e = sym (ap (is_some_and is_le) (same x y)) ∙ e
 
-  pub most_to : (f : ℕ → ℕ) (m y : ℕ) → Most m (λ z. counts_of top rs (f z)) y → Highest (λ z. get_or rs (f z) 0) m y
-  most_to f m y = best_map (λ i j _ _. less (f i) (f j)) (λ i j _ _. more (f i) (f j))
+  pub up_to : IsTotalOrder R → Order (UpTo C)
+  up_to o = record {
+    same = λ c. le_is c c (ap is_le (tied_itself o c));
+    trans = λ c d e h l. le_is c e (le_of _ (upto o c d e (gt_of _ (is_le_of c d h)) (gt_of _ (is_le_of d e l))));
+    decided = λ c d. elim (cases_Bool (is_le (R c d))) [
+      | inl e ↦ inl (le_is c d e)
+      | inr e ↦ inr (λ h. true≢false (sym (is_le_of c d h) ∙ e))
+    ];
+    total = λ c d n. elim (cases_Bool (is_le (R c d))) [
+      | inl e ↦ absurd (n (le_is c d e))
+      | inr e ↦ le_is d c (ap is_le (o.antisymm d c) ∙ back_of _ e)
+    ];
+  }
 
-  -- the move f x of the lowest rank counts least
-  pub least_from : (f : ℕ → ℕ) (m x : ℕ) → Lowest (λ z. get_or rs (f z) 0) m x → Least m (λ z. counts_of top rs (f z)) x
-  least_from f m x = best_map (λ i j _ _. more (f j) (f i)) (λ i j _ _. less (f j) (f i))
+  pub up_to_of : (x y : A) → (R x y ≡ Greater → ⊥) → UpTo C x y
+  up_to_of x y n = le_is x y (le_of_not (R x y) n)
+
+  pub not_up_to_of : (x y : A) → R x y ≡ Greater → UpTo C x y → ⊥
+  not_up_to_of x y e l = true≢false (sym (is_le_of x y l) ∙ ap is_le e)

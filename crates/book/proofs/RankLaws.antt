@@ -1,13 +1,15 @@
 -- The ranks that the solver keeps.
-use Rattle.std.proofs.Common.{◌≡◌, ℕ, zero, suc, ◌+◌, ◌-◌, ◌<◌, ◌≤◌, leb, ◌≢◌, List, length, get_or, set, ap, ◌∙◌, inl, inr, arith, get_or-set_other, get_or-set_same}
+use Rattle.std.proofs.Common.{◌≡◌, ℕ, zero, suc, ◌+◌, ◌-◌, ◌<◌, ◌≤◌, Bool, true, false, Decides, ◌≢◌, List, ◌∷◌, ◌++◌, length, get_or, drop, set, replicate, sym, ap, subst, ◌∙◌, inl, inr, arith, get_or-set_other, get_or-set_same}
+use Rattle.std.proofs.lemmas.List.{get_or_past, get_or-drop, get_or_append_left, get_or-append_right, get_or-replicate, length-replicate}
 use Rattle.std.proofs.lemmas.Bool.{cases_Bool, cases_eq, cases_lt, le-leb, lt-leb}
 use Rattle.terms.specs.declared.count.Count.TheVariants.{Limited, Unlimited}
 use Rattle.arena.specs.Arena.{Arena, Place}
 use Rattle.arena.specs.Held.{Held, Keeps, Settled}
-use Rattle.terms.specs.Order.{AtMost, Below}
 use Rattle.arena.specs.Count.{Counts}
 use Rattle.arena.proofs.HeldLaws.{held_place, held_down, settled_stays}
-use Rattle.book.specs.Ranks.{Tells, Ranks, Amid, Over, count_of, Ready}
+use Rattle.arena.specs.Values.{Values}
+use Rattle.arena.proofs.CountLaws.{counts_once}
+use Rattle.book.specs.Ranks.{Tells, Ranks, Amid, Over, count_of, counts_of}
 
 -- ---- the start
 
@@ -17,6 +19,24 @@ tells_place a q h = record { most = omega arith; below = λ j l. (let e : j ≡ 
 
 pub tells_lost : (a : Arena) (k q : ℕ) → (Place a q → ⊥) → Tells a k q 0
 tells_lost a k q h = record { most = omega arith; below = λ j l. absurd (omega arith); above = λ j l m n. h (held_place a j q n) }
+
+-- the ranks before the first sweep: 0 for lost, 1 for each position, and 0 behind them
+pub begun : (a : Arena) (ys zs : List ℕ) (n m : ℕ) → ys ≡ replicate n 1 → n ≡ a.size → ((k : ℕ) → get_or zs k 0 ≡ 0) → Ranks a 0 (0 ∷ (ys ++ drop m zs))
+begun a ys zs n m e f z zero = tells_lost a 0 0 (λ i. omega arith)
+begun a ys zs n m e f z (suc q) =
+    let long : length ys ≡ n = ap length e ∙ length-replicate n 1 in
+    elim (cases_lt q n) [
+      | inl l ↦ subst (Tells a 0 (suc q)) (sym (get_or_append_left ys (drop m zs) 0 q (omega arith) ∙ ap (λ t. get_or t q 0) e ∙ get_or-replicate n q 1 0 l)) (tells_place a (suc q) (omega arith, omega arith))
+      | inr l ↦ subst (Tells a 0 (suc q)) (sym (get_or-append_right ys (drop m zs) n q 0 long l ∙ get_or-drop m zs (q - n) 0 ∙ z (m + (q - n)))) (tells_lost a 0 (suc q) (λ i. omega arith))
+    ]
+
+abbrev pub zeros : ℕ → List ℕ
+zeros n = replicate n 0
+
+pub all_zero : (n k : ℕ) → get_or (zeros n) k 0 ≡ 0
+all_zero n k =
+    let long : length (zeros n) ≡ n = length-replicate {A = ℕ} n 0 in
+    elim (cases_lt k n) [ inl l ↦ get_or-replicate n k 0 0 l | inr l ↦ get_or_past (zeros n) k 0 (omega arith) ]
 
 -- ---- a sweep
 
@@ -82,15 +102,22 @@ amid_none a k rs h = record {
   ahead = λ q _. h q;
 }
 
-pub amid_all : (a : Arena) (k : ℕ) (rs : List ℕ) → Amid a k (a.size + 1) rs → Ranks a (suc k) rs
-amid_all a k rs m q = elim (cases_lt q (a.size + 1)) [
-  | inl l ↦ m.done q l
-  | inr l ↦ tells_same a k q _ (λ h. omega (arith, held_place a (suc k) q h)) (m.ahead q l)
-]
+-- when the sweep has come to the end
+pub swept : (a : Arena) (k p : ℕ) (rs : List ℕ) (none : Bool) → a.size < p → Amid a k p rs → (none ≡ true → (q : ℕ) → q < p → Held a k q → Held a (suc k) q) → (none ≡ false → Settled a k → ⊥) → Ranks a (suc k) rs × Decides none (Settled a k)
+swept a k p rs none l m kept dropped = (
+  λ q. elim (cases_lt q p) [
+    | inl i ↦ m.done q i
+    | inr i ↦ tells_same a k q _ (λ h. omega (arith, held_place a (suc k) q h)) (m.ahead q i)
+  ],
+  (
+    (λ t q h. kept t q (omega (arith, held_place a k q h)) h),
+    λ s. elim (cases_Bool none) [ inl t ↦ t | inr f ↦ absurd (dropped f s) ],
+  ),
+)
 
 -- ---- counts
 
-pub count_top : (top r : ℕ) → 1 ≤ r → top ≤ r → count_of top r ≡ Unlimited
+count_top : (top r : ℕ) → 1 ≤ r → top ≤ r → count_of top r ≡ Unlimited
 unfolding count_of
 count_top top zero h l = absurd (omega arith)
 count_top top (suc r) h l = rw (le-leb top (suc r) l)
@@ -98,10 +125,6 @@ count_top top (suc r) h l = rw (le-leb top (suc r) l)
 count_low : (top r : ℕ) → suc r < top → count_of top (suc r) ≡ Limited r
 unfolding count_of
 count_low top r l = rw (lt-leb top (suc r) l)
-
-pub count_under : (top r : ℕ) → 1 ≤ r → r < top → count_of top r ≡ Limited (r - 1)
-count_under top zero h l = absurd (omega arith)
-count_under top (suc r) h l = let e : r ≡ suc r - 1 = omega arith in count_low top r l ∙ ap Limited e
 
 count_right : (a : Arena) (k q r : ℕ) → Settled a k → Tells a (suc k) q r → Counts a q (count_of (k + 2) r)
 unfolding Counts
@@ -111,31 +134,6 @@ count_right a k q (suc r) s t = elim (cases_lt (suc r) (k + 2)) [
   | inr l ↦ rw (count_top (k + 2) (suc r) (omega arith) l) (λ j. settled_stays a k s j q (t.below k (omega arith)))
 ]
 
-pub ready : (a : Arena) (k : ℕ) (rs : List ℕ) → k ≤ 255 → length rs ≡ 256 → Settled a k → Ranks a (suc k) rs → Ready a (k + 2) rs
-ready a k rs l e s h = record { long = e; low = omega arith; within = λ q. omega (arith, (h q).most); counts = λ q. count_right a k q _ s (h q) }
-
--- the order of ranks is that of counts
-pub rank_order : (top r s : ℕ) → r ≤ s → s ≤ top → AtMost (count_of top r) (count_of top s)
-unfolding count_of AtMost
-rank_order top zero s l h = tt
-rank_order top (suc r) zero l h = absurd (omega arith)
-rank_order top (suc r) (suc s) l h = elim (cases_lt (suc s) top) [
-  | inl i ↦ rw (lt-leb top (suc s) i, lt-leb top (suc r) (omega arith)) (omega arith)
-  | inr i ↦ rw (le-leb top (suc s) i) (elim (cases_Bool (leb top (suc r))) [ inl e ↦ rw e tt | inr e ↦ rw e tt ])
-]
-
-pub rank_below : (top r s : ℕ) → r < s → s ≤ top → Below (count_of top r) (count_of top s)
-unfolding count_of AtMost
-rank_below top r zero l h = absurd (omega arith)
-rank_below top zero (suc s) l h = elim (cases_Bool (leb top (suc s))) [ inl e ↦ rw e (λ z. z) | inr e ↦ rw e (λ z. z) ]
-rank_below top (suc r) (suc s) l h = elim (cases_lt (suc s) top) [
-  | inl i ↦ rw (lt-leb top (suc s) i, lt-leb top (suc r) (omega arith)) (λ z. omega arith)
-  | inr i ↦ rw (le-leb top (suc s) i, lt-leb top (suc r) (omega arith)) (λ z. z)
-]
-
--- a loop that writes the ranks
-pub told_more : (a : Arena) (k : ℕ) (rs : List ℕ) (i r : ℕ) → i < length rs → ((q : ℕ) → q < i → Tells a k q (get_or rs q 0)) → Tells a k i r → (q : ℕ) → q < i + 1 → Tells a k q (get_or (set rs i r) q 0)
-told_more a k rs i r l h t q m = elim (cases_eq q i) [
-  | inl e ↦ rw e (rw (get_or-set_same rs i r 0 l) t)
-  | inr ne ↦ rw (get_or-set_other rs i q r 0 ne) (h q (omega arith))
-]
+-- when the sweeps are over, the ranks are the counts
+pub settled_counts : (a : Arena) (k : ℕ) (rs : List ℕ) → Settled a k → Ranks a (suc k) rs → (v : Values a) (q : ℕ) → v.count q ≡ counts_of (k + 2) rs q
+settled_counts a k rs s h v q = counts_once a q _ _ (v.counts q) (count_right a k q _ s (h q))

@@ -1,4 +1,5 @@
 pub mod Ranks
+pub mod Picking
 pub mod Solving
 pub mod Told
 pub mod Agreeing

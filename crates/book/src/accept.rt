@@ -1,5 +1,5 @@
 // Accepting a book: one pass over its bytes and the moves of its game.
-ghost use Rattle.std.specs.Prelude.{◌≡◌, ℕ, ◌+◌, ◌*◌, ◌^◌, ◌<◌, ◌≤◌, length, take, drop, Decides, MatchResult};
+ghost use Rattle.std.specs.Prelude.{◌≡◌, ℕ, ◌^◌, ◌≤◌, length, take, drop, Decides, MatchResult};
 ghost use Rattle.arena.specs.Arena.{Place};
 ghost use Rattle.terms.specs.Order.{Most, Least};
 ghost use Rattle.arena.specs.Book.{front, header, entry_at, book_length};
@@ -7,170 +7,134 @@ ghost use Rattle.book.specs.Told.{count_told, spoiling_told, answer_told, count_
 ghost use Rattle.book.specs.Agreeing.{Follows, Expected, AnswersAgree, AgreesAt, Agrees};
 ghost use Rattle.book.specs.Accepting.{Accepted, Unaccepted};
 
-use crate::told::{answer_told, count_told, entry_at, flag_told, spoiling_told};
+use crate::best::least;
+use crate::layout::{book_length, front_of, header_of};
+use crate::told::{answer_told, count_told, entry_at, spoiling_told};
 use game::game::{Game, input_count, output_count};
-use terms::bytes::byte_at;
+use std::cmp::Reverse;
 use terms::count::Count;
 use terms::refusal::Refusal;
 
-// The count where a move leads.
-fn move_count<G: Game>(g: &G, book: &[u8], p: u8, x: u8, y: u8) -> Count
-    requires { book_length (G.meaning g.now).size ≤ length book.now }
-    ensures { result ≡ count_in book.now ((G.meaning g.now).move p x y) }
-{
-    let q = g.step(p, x, y);
-    if q == 0 {
-        return Count::Lost;
-    }
-    count_told(book, q)
+// A book that is judged against a game, as long as the game's own.
+#[derive(Drop)]
+struct Judged<'a, G: Game> {
+    game: &'a G,
+    book: &'a [u8],
+    ghost long: { length book.now ≡ book_length (G.meaning game.now).size },
 }
 
-// The output whose move counts most, the lowest on ties.
-fn best_output<G: Game>(g: &G, book: &[u8], p: u8, x: u8) -> u8
-    requires { book_length (G.meaning g.now).size ≤ length book.now }
-    ensures { Most (2 ^ (G.meaning g.now).outputs) (λ y. count_in book.now ((G.meaning g.now).move p x y)) result }
-{
-    let mut best = 0;
-    let mut high = move_count(g, book, p, x, 0);
-    for y in 1..output_count(g) {
-        let c = move_count(g, book, p, x, y);
-        if !c.is_at_most(high) {
-            best = y;
-            high = c;
+impl<G: Game> Judged<'_, G> {
+    // The count where a move leads.
+    fn move_count(&self, p: u8, x: u8, y: u8) -> Count
+        ensures { result ≡ count_in self.now.book.now ((G.meaning self.now.game.now).move p x y) }
+    {
+        match self.game.step(p, x, y) {
+            0 => Count::Lost,
+            q => count_told(self.book, q),
         }
     }
-    best
-}
 
-// What the answer to x should be: the best output, or 0 where there is no such input.
-fn expected_answer<G: Game>(g: &G, book: &[u8], p: u8, x: u8) -> u8
-    requires { book_length (G.meaning g.now).size ≤ length book.now }
-    ensures { Expected (G.meaning g.now) book.now p x result }
-{
-    if x >= input_count(g) {
-        return 0;
+    // The output whose move counts most, the lowest on ties.
+    // Kept: a solution picks likewise, by its own counts. A trait over both would be longer than the two picks.
+    fn best_output(&self, p: u8, x: u8) -> u8
+        ensures { Most (2 ^ (G.meaning self.now.game.now).outputs) (λ y. count_in self.now.book.now ((G.meaning self.now.game.now).move p x y)) result }
+    {
+        least(
+            output_count(self.game),
+            |y| Reverse(self.move_count(p, x, y)),
+        )
     }
-    best_output(g, book, p, x)
-}
 
-// Whether each answer in the record of p is the best, and 0 where there is no such input.
-fn answers_agree<G: Game>(g: &G, book: &[u8], p: u8) -> bool
-    requires { (Place (G.meaning g.now) p) × (book_length (G.meaning g.now).size ≤ length book.now) }
-    ensures { Decides result (AnswersAgree (G.meaning g.now) book.now p) }
-{
-    for x in 0..16 {
-        if answer_told(book, p, x) != expected_answer(g, book, p, x) {
-            return false;
+    // The count where the answer to x leads.
+    fn answer_count(&self, p: u8, x: u8) -> Count
+        ensures { result ≡ count_in self.now.book.now ((G.meaning self.now.game.now).move p x (answer_told self.now.book.now p x)) }
+    {
+        self.move_count(p, x, answer_told(self.book, p, x))
+    }
+
+    // The input whose answer leads to the least count, the lowest on ties.
+    fn worst_input(&self, p: u8) -> u8
+        ensures { Least (2 ^ (G.meaning self.now.game.now).inputs) (λ x. count_in self.now.book.now ((G.meaning self.now.game.now).move p x (answer_told self.now.book.now p x))) result }
+    {
+        least(input_count(self.game), |x| self.answer_count(p, x))
+    }
+
+    // Whether the answer to x in the record of p is the best, and 0 where there is no such input.
+    fn answer_agrees(&self, p: u8, x: u8) -> bool
+        ensures { Decides result (Expected (G.meaning self.now.game.now) self.now.book.now p x (answer_told self.now.book.now p x)) }
+    {
+        let told = answer_told(self.book, p, x);
+        if x >= input_count(self.game) {
+            return told == 0;
+        }
+        told == self.best_output(p, x)
+    }
+
+    // Whether each answer in the record of p is right.
+    fn answers_agree(&self, p: u8) -> bool
+        ensures { Decides result (AnswersAgree (G.meaning self.now.game.now) self.now.book.now p) }
+    {
+        (0..16).all(|x| self.answer_agrees(p, x))
+    }
+
+    // Whether the count and the spoiling input of p follow from where its answers lead.
+    fn count_follows(&self, p: u8) -> bool
+        ensures { Decides result (Follows (count_told self.now.book.now p) (2 ^ (G.meaning self.now.game.now).inputs) (λ x. count_in self.now.book.now ((G.meaning self.now.game.now).move p x (answer_told self.now.book.now p x))) (spoiling_told self.now.book.now p)) }
+    {
+        let x = self.worst_input(p);
+        let low = self.answer_count(p, x);
+        match spoiling_told(self.book, p) {
+            None => low == Count::Unlimited,
+            Some(told) => told == x && count_told(self.book, p).is_one_more(low),
         }
     }
-    true
-}
 
-// The input whose answer leads to the least count, the lowest on ties.
-fn worst_input<G: Game>(g: &G, book: &[u8], p: u8) -> u8
-    requires { (Place (G.meaning g.now) p) × (book_length (G.meaning g.now).size ≤ length book.now) }
-    ensures { Least (2 ^ (G.meaning g.now).inputs) (λ x. count_in book.now ((G.meaning g.now).move p x (answer_told book.now p x))) result }
-{
-    let mut worst = 0;
-    let mut low = move_count(g, book, p, 0, answer_told(book, p, 0));
-    for x in 1..input_count(g) {
-        let c = move_count(g, book, p, x, answer_told(book, p, x));
-        if !low.is_at_most(c) {
-            worst = x;
-            low = c;
-        }
+    // Whether the first eight bytes of the record of p are those of the count and the spoiling input that they tell.
+    fn front_agrees(&self, p: u8) -> bool
+        requires { Place (G.meaning self.now.game.now) p }
+        ensures { Decides result (take 8 (drop (entry_at p) self.now.book.now) ≡ front (count_told self.now.book.now p) (spoiling_told self.now.book.now p)) }
+    {
+        let at = entry_at(p);
+        let expected = front_of(count_told(self.book, p), spoiling_told(self.book, p));
+        self.book[at..at + 8] == expected[..]
     }
-    worst
-}
 
-// Whether the count and the spoiling input of p follow from where its answers lead.
-fn count_follows<G: Game>(g: &G, book: &[u8], p: u8) -> bool
-    requires { (Place (G.meaning g.now) p) × (book_length (G.meaning g.now).size ≤ length book.now) }
-    ensures { Decides result (Follows (count_told book.now p) (2 ^ (G.meaning g.now).inputs) (λ x. count_in book.now ((G.meaning g.now).move p x (answer_told book.now p x))) (spoiling_told book.now p)) }
-{
-    let x = worst_input(g, book, p);
-    let low = move_count(g, book, p, x, answer_told(book, p, x));
-    if flag_told(book, p) == 1 {
-        return Count::Unlimited.is_at_most(low);
+    // Whether the record of p agrees with the records to which its moves lead.
+    fn record_agrees(&self, p: u8) -> bool
+        requires { Place (G.meaning self.now.game.now) p }
+        ensures { Decides result (AgreesAt (G.meaning self.now.game.now) self.now.book.now p) }
+    {
+        self.front_agrees(p) && self.answers_agree(p) && self.count_follows(p)
     }
-    byte_at(book, entry_at(p) + 6) == x && count_told(book, p).is_one_more(low)
-}
 
-// A record's first eight bytes for a count and a spoiling input.
-fn front_of(count: Count, spoiling: Option<u8>) -> [u8; 8]
-    ensures { result ≡ front count spoiling }
-{
-    let x = spoiling.unwrap_or(0);
-    match count {
-        Count::Lost => [0, 0, 0, 0, 0, 0, x, 0],
-        Count::Limited(k) => [2, 0, 0, 0, (k / 256) as u8, (k % 256) as u8, x, 0],
-        Count::Unlimited => [1, 0, 0, 0, 0, 0, x, 0],
+    // Whether each position's record agrees.
+    fn records_agree(&self) -> bool
+        ensures { Decides result ((p : ℕ) → Place (G.meaning self.now.game.now) p → AgreesAt (G.meaning self.now.game.now) self.now.book.now p) }
+    {
+        (1..=self.game.size()).all(|p| self.record_agrees(p))
     }
-}
 
-// Whether the first eight bytes of the record of p are those of the count and the spoiling input that they tell.
-fn front_agrees(book: &[u8], p: u8) -> bool
-    requires { (1 ≤ p) × (book_length p ≤ length book.now) }
-    ensures { Decides result (take 8 (drop (entry_at p) book.now) ≡ front (count_told book.now p) (spoiling_told book.now p)) }
-{
-    let at = entry_at(p);
-    let expected = front_of(count_told(book, p), spoiling_told(book, p));
-    book[at..at + 8] == expected[..]
-}
-
-// Whether the record of p agrees with the records to which its moves lead.
-fn record_agrees<G: Game>(g: &G, book: &[u8], p: u8) -> bool
-    requires { (Place (G.meaning g.now) p) × (book_length (G.meaning g.now).size ≤ length book.now) }
-    ensures { Decides result (AgreesAt (G.meaning g.now) book.now p) }
-{
-    front_agrees(book, p) && answers_agree(g, book, p) && count_follows(g, book, p)
-}
-
-// Whether each position's record agrees.
-fn records_agree<G: Game>(g: &G, book: &[u8]) -> bool
-    requires { book_length (G.meaning g.now).size ≤ length book.now }
-    ensures { Decides result ((p : ℕ) → Place (G.meaning g.now) p → AgreesAt (G.meaning g.now) book.now p) }
-{
-    for p in 1..g.size() as usize + 1 {
-        if !record_agrees(g, book, p as u8) {
-            return false;
-        }
+    // Whether the whole book agrees with the moves.
+    fn agrees(&self) -> bool
+        requires { 1 ≤ (G.meaning self.now.game.now).size }
+        ensures { Decides result (Agrees (G.meaning self.now.game.now) self.now.book.now) }
+    {
+        self.book[..8] == header_of(self.game)[..] && self.records_agree()
     }
-    true
-}
-
-// Whether the first eight bytes are the game's.
-fn header_agrees<G: Game>(g: &G, book: &[u8]) -> bool
-    requires { 8 ≤ length book.now }
-    ensures { Decides result (take 8 book.now ≡ header (G.meaning g.now)) }
-{
-    let expected = [1, g.inputs(), g.outputs(), g.size(), g.start(), 0, 0, 0];
-    book[0..8] == expected[..]
-}
-
-// Whether the whole book agrees with the moves.
-fn book_agrees<G: Game>(g: &G, book: &[u8]) -> bool
-    requires { 1 ≤ (G.meaning g.now).size }
-    ensures { Decides result (Agrees (G.meaning g.now) book.now) }
-{
-    book.len() == 8 + 24 * g.size() as usize && header_agrees(g, book) && records_agree(g, book)
 }
 
 // Accepts a book that is, byte by byte, the game's book.
 pub fn accept<G: Game>(g: &G, book: &[u8]) -> Result<(), Refusal>
     ensures { MatchResult result (λ _. Accepted (G.meaning g.now) book.now) (Unaccepted (G.meaning g.now) book.now) }
 {
-    judge(g, book)
-}
-
-// The same, step by step.
-fn judge<G: Game>(g: &G, book: &[u8]) -> Result<(), Refusal>
-    ensures { MatchResult result (λ _. Accepted (G.meaning g.now) book.now) (Unaccepted (G.meaning g.now) book.now) }
-{
     if g.size() == 0 {
         return Err(Refusal::SizeZero);
     }
-    if !book_agrees(g, book) {
+    if book.len() != book_length(g) {
+        return Err(Refusal::NotThisBook);
+    }
+    let judged = Judged { game: g, book };
+    if !judged.agrees() {
         return Err(Refusal::NotThisBook);
     }
     Ok(())

@@ -2,7 +2,9 @@
 #![tactic(auto)]
 
 pub mod accept;
-mod pick;
+mod best;
+mod layout;
+mod solution;
 pub mod solve;
 mod sweep;
 pub mod told;

@@ -2,8 +2,8 @@
 ghost use Rattle.std.specs.Result.{MatchResult};
 ghost use Rattle.book.specs.Solving.{Solved, Declined};
 
+use crate::layout::book_length;
 use crate::sweep::settle;
-use crate::write::write_book;
 use game::game::Game;
 use terms::refusal::Refusal;
 
@@ -11,25 +11,14 @@ use terms::refusal::Refusal;
 pub fn solve<G: Game>(g: &G, book: &mut [u8]) -> Result<usize, Refusal>
     ensures { MatchResult result (Solved (G.meaning g.now) book.old book.new) (Declined (G.meaning g.now) book.old book.new) }
 {
-    solve_into(g, book)
-}
-
-// The same, step by step.
-fn solve_into<G: Game>(g: &G, book: &mut [u8]) -> Result<usize, Refusal>
-    ensures { MatchResult result (Solved (G.meaning g.now) book.old book.new) (Declined (G.meaning g.now) book.old book.new) }
-{
-    let n = g.size() as usize;
-    if n == 0 {
+    if g.size() == 0 {
         return Err(Refusal::SizeZero);
     }
-    let mut ranks = [0u16; 256];
-    let Some(top) = settle(g, &mut ranks) else {
-        return Err(Refusal::TooManySweeps);
-    };
-    let len = 8 + 24 * n;
+    let solution = settle(g).ok_or(Refusal::TooManySweeps)?;
+    let len = book_length(g);
     if book.len() < len {
         return Err(Refusal::StoreTooShort);
     }
-    write_book(g, &ranks, top, book, len);
+    solution.write_book(&mut book[..len]);
     Ok(len)
 }

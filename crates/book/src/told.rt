@@ -24,20 +24,20 @@ pub fn flag_told(book: &[u8], p: u8) -> u8
 pub fn count_told(book: &[u8], p: u8) -> Count
     ensures { result ≡ count_told book.now p }
 {
-    if flag_told(book, p) == 1 {
-        return Count::Unlimited;
+    match flag_told(book, p) {
+        1 => Count::Unlimited,
+        _ => Count::Limited(word_at(book, entry_at(p) + 4)),
     }
-    Count::Limited(word_at(book, entry_at(p) + 4))
 }
 
 // The spoiling input in the record of p.
 pub fn spoiling_told(book: &[u8], p: u8) -> Option<u8>
     ensures { result ≡ spoiling_told book.now p }
 {
-    if flag_told(book, p) == 1 {
-        return None;
+    match count_told(book, p) {
+        Count::Unlimited => None,
+        _ => Some(byte_at(book, entry_at(p) + 6)),
     }
-    Some(byte_at(book, entry_at(p) + 6))
 }
 
 // The answer to x in the record of p.

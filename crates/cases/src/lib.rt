@@ -8,6 +8,7 @@ mod tests {
     use book::told::count_told;
     use game::diagram::Diagram;
     use game::pair::Pair;
+    use run::play::Play;
     use run::replay::replay;
     use std::alloc::{AllocError, Global};
     use std::test::Fail;
@@ -287,15 +288,17 @@ mod tests {
             },
         };
         let mut steps = [blank; 12];
-        let end = replay(&Diagram::read(&WORKED)?, &BOOK, &ROW, &mut steps)?;
+        let game = Diagram::read(&WORKED)?;
+        let play = Play {
+            game: &game,
+            book: &BOOK,
+        };
+        let end = replay(&play, &ROW, &mut steps)?;
         for (step, expected) in steps.iter().zip(TOLD.iter()) {
             assert_eq!(rt; (told(step), rounds_of(step.standing.count)), *expected);
         }
         assert_eq!(rt; rounds_of(end.count), 65534);
-        assert_eq!(rt;
-            refusal_of(replay(&Diagram::read(&WORKED)?, &BOOK, &ROW, &mut [blank; 11])),
-            (13, 0)
-        );
+        assert_eq!(rt; refusal_of(replay(&play, &ROW, &mut [blank; 11])), (13, 0));
         Ok(())
     }
 }

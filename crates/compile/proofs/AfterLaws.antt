@@ -1,8 +1,8 @@
 -- Lists after a round, one duty and one set at a time.
-use Rattle.std.proofs.Common.{◌≡◌, ℕ, ◌+◌, ◌-◌, ◌^◌, ◌<◌, ◌≤◌, List, [], ◌∷◌, length, get_or, drop, fold, refl, ap, ◌∙◌}
+use Rattle.std.proofs.Common.{◌≡◌, ℕ, ◌+◌, ◌-◌, ◌^◌, ◌<◌, List, [], ◌∷◌, length, get_or, drop, fold, refl, ap, ◌∙◌}
 use lib.Bits.{bit_and}
 use lib.Count.{count_trailing_zeros}
-use Rattle.std.proofs.lemmas.List.{at_drop_more, at_drop_all}
+use Rattle.std.proofs.lemmas.List.{at_drop_more}
 use Rattle.arena.specs.Tally.{Played}
 use Rattle.rules.specs.declared.part.Part.{Part}
 use Rattle.rules.specs.Sets.{Sets, too_wide, sets, members}
@@ -49,6 +49,3 @@ module _ (ps : List Part) (r : Played) where
 
     pub set_wide : join_set ps r s (get_or xs i 0) ≡ too_wide → fold (join_set ps r) s (drop i xs) ≡ too_wide
     set_wide e = set_joined ∙ ap (λ t. fold (join_set ps r) t (drop (i + 1) xs)) e ∙ sets_wide (drop (i + 1) xs)
-
-  pub no_set_left : (s : Sets) (xs : List ℕ) (i : ℕ) → length xs ≤ i → fold (join_set ps r) s (drop i xs) ≡ s
-  no_set_left s xs i past = at_drop_all (fold (join_set ps r) s) xs i past

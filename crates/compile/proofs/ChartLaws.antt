@@ -9,12 +9,10 @@ use Rattle.rules.specs.Progress.{list_after}
 use Rattle.rules.specs.Explore.{positions, same_list, among, met, lists}
 use Rattle.rules.specs.Game.{number_from, position}
 use Rattle.rules.proofs.CompileLaws.{Is, Grows, among_front, met_ok}
-use Rattle.compile.specs.declared.list.DutyList.{DutyList}
 use Rattle.compile.specs.declared.position.Position.{Position}
-use Rattle.compile.specs.Listed.{items, Tidy}
-use Rattle.compile.specs.Positions.{unused, turn_at, Charted}
-use Rattle.compile.specs.Charting.{list_in, known_in, entry_of, Numbers, Whole, Stored, entered, Entry, with_move, list_next, Round, made, Charting}
-use Rattle.compile.proofs.StoreLaws.{known_count, known_at, entry_whole}
+use Rattle.compile.specs.Positions.{unused, entry_of, turn_at, Charted}
+use Rattle.compile.specs.Charting.{known_in, Numbers, Stored, entered, Entry, with_move, list_next, Round, made, Charting}
+use Rattle.compile.proofs.StoreLaws.{known_count, known_at}
 
 -- how many moves a position has
 made_here : (n p t : ℕ) → made n p t p ≡ t
@@ -69,8 +67,15 @@ numbers_position known too_wide n h = absurd h
 numbers_position known (sets []) n h = h
 numbers_position known (sets (x ∷ xs)) n h = sym h.1
 
+-- a position with all its places for moves
+abbrev Whole : Position → Type 0
+Whole e = length e.moves ≡ 256
+
+entry_whole : (l : List ℕ) → Whole (entry_of l)
+entry_whole l = length-replicate {A = ℕ} 256 0
+
 -- a store with a list more
-module _ (used : ℕ) (l : DutyList) (n : ℕ) (store : List Position) where
+module _ (used : ℕ) (l : List ℕ) (n : ℕ) (store : List Position) where
   pub entered_length : length (entered used l n store) ≡ length store
   entered_length = cond_both (ltb used n) (set store used (entry_of l)) store (λ s. length s ≡ length store) (λ e. length-set store used (entry_of l)) (λ e. refl)
 
@@ -108,24 +113,22 @@ module _ (p t n : ℕ) (store : List Position) (lt : p < length store) where
       let long : used ≤ length (with_move p t n store) = omega (arith, length-set store p (record { list = (get_or store p unused).list; moves = set (get_or store p unused).moves t n })) in
       let count = known_count used (with_move p t n store) long in
       ext_get_or [] _ _ (count ∙ sym (known_count used store fits))
-      (λ k h. let kl : k < used = omega arith in known_at used (with_move p t n store) k long kl ∙ ap items (move_list k) ∙ sym (known_at used store k fits kl))
+      (λ k h. let kl : k < used = omega arith in known_at used (with_move p t n store) k long kl ∙ move_list k ∙ sym (known_at used store k fits kl))
 
 -- the list that was made from what was read at p
-pub next_is : (o : ℕ) (ps : List Part) (p t : ℕ) (store : List Position) (d : Position) (r : Played) (s : Sets) → p < length store → r ≡ turn_at o t → list_after ps r (sets (list_in (get_or store p d))) ≡ s → list_next o ps p t store ≡ s
-next_is o ps p t store d r s lt e is = sym (ap₂ (λ x y. list_after ps x (sets (list_in y))) e (get_or_default store p d unused lt)) ∙ is
+pub next_is : (o : ℕ) (ps : List Part) (p t : ℕ) (store : List Position) (d : Position) (r : Played) (s : Sets) → p < length store → r ≡ turn_at o t → list_after ps r (sets (get_or store p d).list) ≡ s → list_next o ps p t store ≡ s
+next_is o ps p t store d r s lt e is = sym (ap₂ (λ x (y : Position). list_after ps x (sets y.list)) e (get_or_default store p d unused lt)) ∙ is
 
 -- the round of a list that was entered
-pub round_from : (o : ℕ) (ps : List Part) (used p t : ℕ) (store after : List Position) (l : DutyList) (n : ℕ) → Stored used store → p < used → list_next o ps p t store ≡ sets (items l) → Tidy l → Entry used l store after n
+pub round_from : (o : ℕ) (ps : List Part) (used p t : ℕ) (store after : List Position) (l : List ℕ) (n : ℕ) → Stored used store → p < used → list_next o ps p t store ≡ sets l → Entry used l store after n
     → Round o ps used p t store (with_move p t n after) n
-round_from o ps used p t store after l n stored lt leads tidy e =
+round_from o ps used p t store after l n stored lt leads e =
     let length-is : length after ≡ length store = ap length e.holds ∙ entered_length used l n store in
     let fits : max used n ≤ length after = omega (arith, e.few, stored.room, stored.long) in
     let here : p < length after = omega (arith, stored.room, stored.long) in
     let same = move_known p t n after here (max used n) fits in
     record {
       l = l;
-      tidy = tidy;
-      sets_long = e.sets_long;
       few = e.few;
       next = e.next;
       is = ap (met (suc p) (known_in used store)) leads ∙ e.is (suc p) ∙ ap positions (sym same);
@@ -136,7 +139,7 @@ round_from o ps used p t store after l n stored lt leads tidy e =
 module _ (n o : ℕ) (ps : List Part) where
   -- one move more
   module _ (used p t : ℕ) (store after : List Position) (m : ℕ) (chart : Charting n o ps used p t store) (lt : p < used) (in-moves : t < 256) (round : Round o ps used p t store after m) where
-    abbrev l : DutyList
+    abbrev l : List ℕ
     l = round.l
 
     abbrev mid : List Position
@@ -172,11 +175,11 @@ module _ (n o : ℕ) (ps : List Part) where
     ]
 
     -- the list of the position that is left stays
-    pub list_kept : list_in (get_or after p unused) ≡ list_in (get_or store p unused)
-    list_kept = ap items (list_old p lt)
+    pub list_kept : (get_or after p unused).list ≡ (get_or store p unused).list
+    list_kept = list_old p lt
 
     next_old : (k s : ℕ) → k < used → list_next o ps k s store ≡ list_next o ps k s after
-    next_old k s h = ap (λ (x : DutyList). list_after ps (turn_at o s) (sets (items x))) (sym (list_old k h))
+    next_old k s h = ap (λ (x : List ℕ). list_after ps (turn_at o s) (sets x)) (sym (list_old k h))
 
     grows : Grows (known_in used store) (known_in (max used m) after)
     grows =
@@ -199,11 +202,9 @@ module _ (n o : ℕ) (ps : List Part) where
 
     whole_more : (k : ℕ) → EntryAt k → Whole (get_or after k unused)
     whole_more k (left e) =
-        let w = chart.stored.whole p lt in
-        subst (λ j. Whole (get_or after j unused)) (sym e) (subst Whole (sym at_here)
-        (record { tidy = w.tidy; sets_long = w.sets_long; moves_long = length-set (get_or store p unused).moves t m ∙ w.moves_long }))
+        subst (λ j. Whole (get_or after j unused)) (sym e) (subst Whole (sym at_here) (length-set (get_or store p unused).moves t m ∙ chart.stored.whole p lt))
     whole_more k (old h e) = subst Whole (sym (at_old k h e)) (chart.stored.whole k h)
-    whole_more k (new e h) = subst (λ j. Whole (get_or after j unused)) (sym e) (subst Whole (sym (at_new h)) (entry_whole l round.tidy round.sets_long))
+    whole_more k (new e h) = subst (λ j. Whole (get_or after j unused)) (sym e) (subst Whole (sym (at_new h)) (entry_whole l))
 
     moves_here : (s : ℕ) → get_or (get_or after p unused).moves s 0 ≡ get_or (set (get_or store p unused).moves t m) s 0
     moves_here s = ap (λ (x : Position). get_or x.moves s 0) at_here
@@ -222,7 +223,7 @@ module _ (n o : ℕ) (ps : List Part) where
       where
         go : (s ≡ t) ⊎ (s ≡ t → ⊥) → MovesAt p s
         go (inl e) =
-            let is : get_or (get_or after p unused).moves t 0 ≡ m = moves_here t ∙ get_or-set_same (get_or store p unused).moves t m 0 (omega (arith, (chart.stored.whole p lt).moves_long)) in
+            let is : get_or (get_or after p unused).moves t 0 ≡ m = moves_here t ∙ get_or-set_same (get_or store p unused).moves t m 0 (omega (arith, chart.stored.whole p lt)) in
             subst (MovesAt p) (sym e) (subst₂ (Numbers (known_in (max used m) after)) (next_old p t lt) (sym is) round.number)
         go (inr e) = stays p s lt (omega (arith, made_here n p t)) (moves_here s ∙ get_or-set_other (get_or store p unused).moves t s m 0 e)
 
@@ -262,15 +263,15 @@ module _ (n o : ℕ) (ps : List Part) where
   }
 
   -- a zero store with its first list
-  pub chart_first : (l : DutyList) (store : List Position) → Tidy l → length l.sets ≡ 32 → 255 ≤ length store → ((k : ℕ) → get_or store k unused ≡ unused) → Charting n o ps 1 0 0 (set store 0 (entry_of l))
-  chart_first l store tidy long room zeros =
+  pub chart_first : (l : List ℕ) (store : List Position) → length store ≡ 255 → ((k : ℕ) → get_or store k unused ≡ unused) → Charting n o ps 1 0 0 (set store 0 (entry_of l))
+  chart_first l store room zeros =
       let at : get_or (set store 0 (entry_of l)) 0 unused ≡ entry_of l = get_or-set_same store 0 (entry_of l) unused (omega arith) in
       let only : (k : ℕ) → k < 1 → get_or (set store 0 (entry_of l)) k unused ≡ entry_of l = λ k h. let e : k ≡ 0 = omega arith in ap (λ j. get_or (set store 0 (entry_of l)) j unused) e ∙ at in
       record {
         stored = record {
           room = omega arith;
-          long = omega (arith, length-set store 0 (entry_of l));
-          whole = λ k h. subst Whole (sym (only k h)) (entry_whole l tidy long);
+          long = length-set store 0 (entry_of l) ∙ room;
+          whole = λ k h. subst Whole (sym (only k h)) (entry_whole l);
         };
         moves = λ k s h d. let e : k ≡ 0 = omega arith in absurd (omega (arith, ap (made n 0 0) e, made_here n 0 0));
         no_moves = λ k s h d. ap (λ (x : Position). get_or x.moves s 0) (only k h) ∙ zeros_at 256 s;
@@ -284,10 +285,19 @@ chart_done i o ps used p store done chart =
     let count = known_count used store fits in
     let all : (k : ℕ) → k < length (known_in used store) → (k < used) × (made (2 ^ i * 2 ^ o) p 0 k ≡ 2 ^ i * 2 ^ o) = λ k h. (omega arith, made_before (2 ^ i * 2 ^ o) p 0 k (omega arith)) in
     record {
-      lists = λ k h. record { tidy = (chart.stored.whole k (all k h).0).tidy; is = ap sets (known_at used store k fits (all k h).0) };
+      lists = λ k h. sym (known_at used store k fits (all k h).0);
       moves = λ k t h d.
           numbers_position (known_in used store) (list_next o ps k t store) (get_or (get_or store k unused).moves t 0) (chart.moves k t (all k h).0 (omega (arith, (all k h).1)))
           ∙ ap (λ xs. position (known_in used store) (list_after ps (turn_at o t) (sets xs))) (sym (known_at used store k fits (all k h).0));
       no_moves = λ k t h d. chart.no_moves k t (all k h).0 (omega (arith, (all k h).1));
       rest = λ k h. chart.rest k (omega arith);
     }
+
+-- a store with zeros behind it
+pub chart_longer : (i o : ℕ) (ps : List Part) (known : List (List ℕ)) (store rest : List Position) → ((k : ℕ) → get_or (store ++ rest) k unused ≡ get_or store k unused) → Charted i o ps known store → Charted i o ps known (store ++ rest)
+chart_longer i o ps known store rest same c = record {
+  lists = λ k h. ap (λ (e : Position). e.list) (same k) ∙ c.lists k h;
+  moves = λ k t h d. ap (λ (e : Position). get_or e.moves t 0) (same k) ∙ c.moves k t h d;
+  no_moves = λ k t h d. ap (λ (e : Position). get_or e.moves t 0) (same k) ∙ c.no_moves k t h d;
+  rest = λ k h. same k ∙ c.rest k h;
+}

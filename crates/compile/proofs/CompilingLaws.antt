@@ -1,8 +1,9 @@
 -- From what two texts say to what compiling them comes to.
-use Rattle.std.proofs.Common.{◌≡◌, ℕ, ◌-◌, ◌<◌, ◌≤◌, Bool, true, false, leb, ◌↔◌, List, [], ◌∷◌, ◌++◌, length, take, replicate, Some, Ok, Err, Result, sym, ap, ◌∙◌, subst, arith}
+use Rattle.std.proofs.Common.{◌≡◌, ℕ, ◌+◌, ◌-◌, ◌<◌, ◌≤◌, Bool, true, false, leb, ◌↔◌, List, [], ◌++◌, length, get_or, take, drop, replicate, inl, inr, Some, Ok, Err, Result, sym, ap, ◌∙◌, subst, arith}
 use lib.ListN.{length-replicate}
 use lib.Seq.{take-append-le, take-length}
-use Rattle.std.proofs.lemmas.Bool.{and_from, le-leb}
+use Rattle.std.proofs.lemmas.List.{get_or-take, get_or_past, get_or_append_left, get_or-append_right, get_or-drop, length-take}
+use Rattle.std.proofs.lemmas.Bool.{and_from, le-leb, cases_lt}
 use Rattle.terms.specs.declared.refusal.Refusal.{Refusal}
 use Rattle.arena.specs.Arena.{Arena}
 use Rattle.arena.specs.Tally.{leads}
@@ -25,11 +26,11 @@ use Rattle.reader.specs.declared.texts.Texts.{Texts}
 use Rattle.reader.specs.Texts.{Small}
 use Rattle.reader.specs.Both.{Both, both_served}
 use Rattle.compile.specs.declared.position.Position.{Position}
-use Rattle.compile.specs.Positions.{reason, Charted}
-use Rattle.compile.specs.Explored.{explored, Explores}
+use Rattle.compile.specs.Positions.{unused, reason, Charted}
 use Rattle.compile.specs.TableGame.{arena_in}
 use Rattle.compile.specs.Compiling.{built, Builds, ReadsAs, Promise, Served}
 use Rattle.compile.specs.declared.compiled.Compiled.{Compiled as Numbers}
+use Rattle.compile.proofs.ChartLaws.{chart_longer}
 use Rattle.compile.proofs.TableGameLaws.{charted_game}
 
 -- ---- building
@@ -43,13 +44,26 @@ module _ (i o : ℕ) (ps : List Part) (k : ℕ) where
   unfolding explore
   built_lost xs e none = ap (λ s. explore 256 ps (rounds i o) 0 (start s)) (e ∙ ap sets none)
 
-  pub built_some : (xs : List ℕ) → list_of ps k ≡ sets xs → 0 < length xs → built i o ps k ≡ explored i o ps xs
-  built_some [] e some = absurd (omega arith)
-  built_some (x ∷ xs) e some = ap (λ s. explore 256 ps (rounds i o) 0 (start s)) e
+-- what stands in front of zeros in a longer store
+front_zeros : (n : ℕ) (store after : List Position) (k : ℕ) → length after ≡ n → ((j : ℕ) → get_or store j unused ≡ unused) → get_or (after ++ drop n store) k unused ≡ get_or after k unused
+front_zeros n store after k long zeros = elim (cases_lt k n) [
+  | inl h ↦ get_or_append_left after (drop n store) unused k (omega arith)
+  | inr h ↦
+      get_or-append_right after (drop n store) n k unused long h
+      ∙ get_or-drop n store (k - n) unused
+      ∙ zeros (n + (k - n))
+      ∙ sym (get_or_past after k unused (omega arith))
+]
 
-  pub built_explored : (xs : List ℕ) (store : List Position) (r : Result ℕ Refusal) → list_of ps k ≡ sets xs → 0 < length xs → Explores i o ps xs store r → Builds i o ps k store r
-  built_explored xs store (Ok n) e some (found, is, size, chart) = (found, built_some xs e some ∙ is, size, chart)
-  built_explored xs store (Err m) e some h = ap reason (built_some xs e some) ∙ h
+pub builds_longer : (i o : ℕ) (ps : List Part) (k n : ℕ) (store after : List Position) (r : Result ℕ Refusal) → length after ≡ n → ((j : ℕ) → get_or store j unused ≡ unused) → Builds i o ps k after r → Builds i o ps k (after ++ drop n store) r
+builds_longer i o ps k n store after (Ok m) long zeros (found, is, size, chart) = (found, is, size, chart_longer i o ps found after (drop n store) (λ j. front_zeros n store after j long zeros) chart)
+builds_longer i o ps k n store after (Err e) long zeros h = h
+
+pub taken_zeros : (n : ℕ) (store : List Position) (k : ℕ) → ((j : ℕ) → get_or store j unused ≡ unused) → get_or (take n store) k unused ≡ unused
+taken_zeros n store k zeros = elim (cases_lt k n) [
+  | inl h ↦ get_or-take n store k unused h ∙ zeros k
+  | inr h ↦ get_or_past (take n store) k unused (omega (arith, length-take n store))
+]
 
 -- a rule that fits compiles by exploring from the list of its own part
 pub compiled_built : (i o : ℕ) (f : Rule) → Small f → compiled i o f ≡ built i o (parts_of f).table (parts_of f).number
@@ -74,19 +88,17 @@ pub record BothSay (names : List Name) (signals rule : List ℕ) (t : Texts) (na
   pub few_out : length outs ≤ 4
   pub small : Small says
   pub falls : (k : ℕ) → Falls k (part (parts_of says).table k)
-  pub count_is : t.rule.parts ≡ length (parts_of says).table
   pub root_is : t.rule.root ≡ (parts_of says).number
   pub root_in : (parts_of says).number < length (parts_of says).table
   pub parts_are : parts' ≡ (parts_of says).table ++ replicate (length parts' - length (parts_of says).table) True
-  pub front_is : take (t.rule.parts - 0) parts' ≡ (parts_of says).table
+  pub front_is : take t.rule.parts parts' ≡ (parts_of says).table
 
 few_signals : (room : ℕ) (text : List ℕ) (ins outs : List (List ℕ)) → Outcome room text (served ins outs) → (length ins ≤ 4) × (length outs ≤ 4)
 few_signals room text ins outs (reads f ws s) = (s.few_in, s.few_out)
 
-front_of : (n : ℕ) (xs zs : List Part) → n ≡ length xs → take (n - 0) (xs ++ zs) ≡ xs
+front_of : (n : ℕ) (xs zs : List Part) → n ≡ length xs → take n (xs ++ zs) ≡ xs
 front_of n xs zs e =
-    let m : n - 0 ≡ length xs = omega arith in
-    ap (λ k. take k (xs ++ zs)) m ∙ take-append-le (length xs) xs zs (omega arith) ∙ take-length xs
+    ap (λ k. take k (xs ++ zs)) e ∙ take-append-le (length xs) xs zs (omega arith) ∙ take-length xs
 
 pub both_say : (names : List Name) (parts : List Part) (signals rule : List ℕ) (t : Texts) (names' : List Name) (parts' : List Part)
     → Both names parts signals rule (Ok t) names' parts' → BothSay names signals rule t names' parts'
@@ -104,11 +116,10 @@ both_say names parts signals rule t names' parts' (both_served {ins} {outs} room
       few_out = few.1;
       small = s.small;
       falls = s.formed.falls;
-      count_is = s.parts_are;
       root_is = s.root_is;
       root_in = (parts_good [] s.said_rule (λ k. tt)).inside;
       parts_are = s.store_is;
-      front_is = ap (take (t.rule.parts - 0)) s.store_is ∙ front_of t.rule.parts table _ s.parts_are;
+      front_is = ap (take t.rule.parts) s.store_is ∙ front_of t.rule.parts table _ s.parts_are;
     }
 
 -- ---- the promise
@@ -133,19 +144,19 @@ all_equal a n xs e = e ∙ ap (λ k. replicate k a) (sym (ap length e ∙ length
 
 module _ (names : List Name) (signals rule : List ℕ) (t : Texts) (names' : List Name) (parts' : List Part) (store : List Position) (b : BothSay names signals rule t names' parts') where
   -- what building comes to, told by the rule
-  built_said : (r : Result ℕ Refusal) → Builds t.signals.inputs t.signals.outputs (take (t.rule.parts - 0) parts') t.rule.root store r
+  built_said : (r : Result ℕ Refusal) → Builds t.signals.inputs t.signals.outputs (take t.rule.parts parts') t.rule.root store r
       → Builds (length b.ins) (length b.outs) (parts_of b.says).table (parts_of b.says).number store r
   built_said r h =
       subst (λ i. Builds i (length b.outs) (parts_of b.says).table (parts_of b.says).number store r) b.inputs_are
       (subst (λ o. Builds t.signals.inputs o (parts_of b.says).table (parts_of b.says).number store r) b.outputs_are
       (subst (λ ps. Builds t.signals.inputs t.signals.outputs ps (parts_of b.says).number store r) b.front_is
-      (subst (λ k. Builds t.signals.inputs t.signals.outputs (take (t.rule.parts - 0) parts') k store r) b.root_is h)))
+      (subst (λ k. Builds t.signals.inputs t.signals.outputs (take t.rule.parts parts') k store r) b.root_is h)))
 
-  pub built_refused : (e : Refusal) → Builds t.signals.inputs t.signals.outputs (take (t.rule.parts - 0) parts') t.rule.root store (Err e)
+  pub built_refused : (e : Refusal) → Builds t.signals.inputs t.signals.outputs (take t.rule.parts parts') t.rule.root store (Err e)
       → reason (compiled (length b.ins) (length b.outs) b.says) ≡ Some e
   built_refused e h = ap reason (compiled_built (length b.ins) (length b.outs) b.says b.small) ∙ built_said (Err e) h
 
-  pub built_served : (n : ℕ) → Builds t.signals.inputs t.signals.outputs (take (t.rule.parts - 0) parts') t.rule.root store (Ok n)
+  pub built_served : (n : ℕ) → Builds t.signals.inputs t.signals.outputs (take t.rule.parts parts') t.rule.root store (Ok n)
       → Served (length names) signals rule (record { inputs = t.signals.inputs; outputs = t.signals.outputs; positions = n }) names' parts' store
   built_served n h = go (built_said (Ok n) h)
     where

@@ -1,50 +1,75 @@
 -- The list of a part, and a part after a round, from their sides; what a memory of lists says.
-use Rattle.std.proofs.Common.{◌≡◌, ℕ, ◌<◌, true, List, length, get_or, set, replicate, sym, refl, ap, ◌∙◌, subst, ⊎_elim, arith, length-set, get_or-set_other, get_or-set_same}
+use Rattle.std.proofs.Common.{◌≡◌, ℕ, ◌<◌, Bool, true, ◌⊎◌, inl, inr, List, None, length, get_or, replicate, sym, refl, ap, ◌∙◌, subst, ⊎_elim, arith}
 use lib.ListN.{length-replicate}
 use Rattle.std.proofs.lemmas.List.{get_or-replicate, get_or_past}
-use Rattle.std.proofs.lemmas.Bool.{cases_eq, cases_lt}
+use Rattle.std.proofs.lemmas.Bool.{cases_lt}
 use Rattle.arena.specs.Tally.{Played}
 use Rattle.rules.specs.declared.part.Part.{Part}
+use Rattle.rules.specs.declared.part.Part.TheVariants.{Literal, Next, Release}
+use Rattle.rules.specs.declared.part.Signal.{Signal}
 use Rattle.rules.specs.Sets.{Sets}
-use Rattle.rules.specs.Parts.{part, Falls, is_duty, duty_number}
-use Rattle.rules.specs.Progress.{list_from, list_of, after_from, part_after}
+use Rattle.rules.specs.Parts.{part, is_duty, duty_number, duty_part}
+use Rattle.rules.specs.Progress.{own, list_from, list_of, after_from, part_after, set_after}
 use Rattle.rules.proofs.PartLaws.{duty_below}
 use Rattle.rules.proofs.StepLaws.{list_step, after_step}
-use Rattle.compile.specs.declared.progress.Known.{Known}
-use Rattle.compile.specs.declared.progress.Known.TheVariants.{Unknown}
 use Rattle.compile.specs.declared.outline.Outline.{Outline}
-use Rattle.compile.specs.Known.{Knows, Remembers, Outlines, parts_in}
+use Rattle.compile.specs.declared.progress.Progress.{Progress}
+use Rattle.compile.specs.Known.{Knows, Remembers}
+use Rattle.compile.specs.Progressing.{rule, round, Stays}
 
-module _ (o : Outline) (good : Outlines o) (k : ℕ) (x : Part) (is : part (parts_in o) k ≡ x) where
-  pub list_at : list_of (parts_in o) k ≡ list_from (list_of (parts_in o)) (duty_number (parts_in o) k) x
-  list_at = list_step (parts_in o) good.falls k ∙ ap (list_from (list_of (parts_in o)) (duty_number (parts_in o) k)) is
+module _ (o : Outline) (k : ℕ) (x : Part) (is : part o.parts.now k ≡ x) where
+  pub list_at : list_of o.parts.now k ≡ list_from (list_of o.parts.now) (duty_number o.parts.now k) x
+  list_at = list_step o.parts.now o.outlines.falls k ∙ ap (list_from (list_of o.parts.now) (duty_number o.parts.now k)) is
 
-  pub after_at : (r : Played) → part_after (parts_in o) r k ≡ after_from (list_of (parts_in o)) (part_after (parts_in o) r) r (duty_number (parts_in o) k) x
-  after_at r = after_step (parts_in o) good.falls r k ∙ ap (after_from (list_of (parts_in o)) (part_after (parts_in o) r) r (duty_number (parts_in o) k)) is
+  pub after_at : (r : Played) → part_after o.parts.now r k ≡ after_from (list_of o.parts.now) (part_after o.parts.now r) r (duty_number o.parts.now k) x
+  after_at r = after_step o.parts.now o.outlines.falls r k ∙ ap (after_from (list_of o.parts.now) (part_after o.parts.now r) r (duty_number o.parts.now k)) is
 
-  pub sides_fall : Falls k x
-  sides_fall = subst (Falls k) is (good.falls k)
+-- an outline of these parts has the number of a part that is a duty, and it is small
+module _ (o : Outline) (ps : List Part) (same : o.parts.now ≡ ps) (k : ℕ) (inside : k < length ps) where
+  pub number_is : get_or o.numbers k 0 ≡ duty_number ps k
+  number_is = o.outlines.numbered k (omega (arith, ap length same)) ∙ ap (λ z. duty_number z k) same
 
-  pub duty_fits : k < length (parts_in o) → is_duty x ≡ true → get_or o.numbers k 0 < 32
-  duty_fits h d = omega (arith, good.numbers k h, good.duties, duty_below (parts_in o) k (ap is_duty is ∙ d))
+  pub number_fits : is_duty (part ps k) ≡ true → get_or o.numbers k 0 < 32
+  number_fits d = omega (arith, number_is, o.outlines.duties, ap (λ z. duty_number z (length z)) same, duty_below ps k d)
 
--- one list more is known
-pub remembers_more : (f : ℕ → Sets) (memory : List Known) (k : ℕ) (x : Known) → Remembers f memory → k < 64 → Knows (f k) x → Remembers f (set memory k x)
-remembers_more f memory k x m h e = record {
-  long = length-set memory k x ∙ m.long;
-  right = λ j. ⊎_elim
-      (λ same. subst (λ i. Knows (f i) (get_or (set memory k x) i Unknown)) (sym same) (subst (Knows (f k)) (sym (get_or-set_same memory k x Unknown (omega (arith, m.long)))) e))
-      (λ other. subst (Knows (f j)) (sym (get_or-set_other memory k j x Unknown other)) (m.right j))
-      (cases_eq j k);
-}
+-- a literal, an X part or an R part is a duty, whose list is its own
+abbrev Duty : Part → Type 0
+Duty x = ((s : Signal) × (want : Bool) × (x ≡ Literal s want)) ⊎ (((f : ℕ) × (x ≡ Next f)) ⊎ ((a : ℕ) × (b : ℕ) × (x ≡ Release a b)))
+
+pub is_own : (x : Part) → Duty x → is_duty x ≡ true
+is_own x (inl (s, want, e)) = ap is_duty e
+is_own x (inr (inl (f, e))) = ap is_duty e
+is_own x (inr (inr (a, b, e))) = ap is_duty e
+
+pub list_own : (f : ℕ → Sets) (d : ℕ) (x : Part) → Duty x → list_from f d x ≡ own d
+list_own f d x (inl (s, want, e)) = ap (list_from f d) e
+list_own f d x (inr (inl (g, e))) = ap (list_from f d) e
+list_own f d x (inr (inr (a, b, e))) = ap (list_from f d) e
+
+-- what is made of the rule and the round stays
+module _ {p q : Progress} (same : Stays p q) (k : ℕ) where
+  pub list_stays : list_of (rule p) k ≡ list_of (rule q) k
+  list_stays = ap (λ z. list_of z k) (sym same.parts)
+
+  pub after_stays : part_after (rule p) (round p) k ≡ part_after (rule q) (round q) k
+  after_stays = λ j. part_after (sym same.parts j) (sym same.played j) k
+
+  pub duty_stays : part_after (rule p) (round p) (duty_part (rule p) k) ≡ part_after (rule q) (round q) (duty_part (rule q) k)
+  duty_stays = λ j. part_after (sym same.parts j) (sym same.played j) (duty_part (sym same.parts j) k)
+
+  pub set_stays : set_after (rule p) (round p) k ≡ set_after (rule q) (round q) k
+  set_stays = λ j. set_after (sym same.parts j) (sym same.played j) k
+
+pub stays_on : {p q r : Progress} → Stays p q → Stays q r → Stays p r
+stays_on a b = record { parts = b.parts ∙ a.parts; played = b.played ∙ a.played }
 
 -- an entry of equal ones, or the default that is equal to them
 pub getD_equal : {A : Type 0} (n k : ℕ) (a : A) → get_or (replicate n a) k a ≡ a
 getD_equal n k a = ⊎_elim (get_or-replicate n k a a) (λ past. get_or_past (replicate n a) k a (omega (arith, length-replicate n a))) (cases_lt k n)
 
 -- at first nothing is known
-pub remembers_none : (f : ℕ → Sets) → Remembers f (replicate 64 Unknown)
+pub remembers_none : (f : ℕ → Sets) → Remembers f (replicate 64 None)
 remembers_none f = record {
   long = refl;
-  right = λ k. subst (Knows (f k)) (sym (getD_equal 64 k Unknown)) tt;
+  right = λ k. subst (Knows (f k)) (sym (getD_equal 64 k None)) tt;
 }

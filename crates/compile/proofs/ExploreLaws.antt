@@ -9,7 +9,7 @@ use Rattle.rules.specs.Progress.{list_after}
 use Rattle.rules.specs.Explore.{Compiled, too_large, lost_start, wide_at, too_many, positions, met, move, rounds, turn, explore}
 use Rattle.compile.specs.declared.position.Position.{Position}
 use Rattle.compile.specs.Positions.{unused, turn_at, reason}
-use Rattle.compile.specs.Charting.{list_in, known_in, left_from}
+use Rattle.compile.specs.Charting.{known_in, left_from}
 use Rattle.compile.proofs.StoreLaws.{known_count, known_at}
 use Rattle.compile.proofs.RoundLaws.{rounds_count, round_at}
 
@@ -65,7 +65,7 @@ module _ (ps : List Part) where
       let known = known_in used store in
       let next : 256 - p ≡ suc (256 - (p + 1)) = omega arith in
       let one : suc p ≡ p + 1 = omega arith in
-      let is : get_or known p [] ≡ list_in (get_or store p unused) = known_at used store p fits lt in
+      let is : get_or known p [] ≡ (get_or store p unused).list = known_at used store p fits lt in
       ap (λ n. explore n ps (rounds i o) p (positions known)) next
       ∙ explore_next (256 - (p + 1)) (rounds i o) p known (omega (arith, known_count used store fits))
       ∙ ap₂ (λ q s. explore (256 - (p + 1)) ps (rounds i o) q (fold (move ps (suc p) s) (positions known) (rounds i o))) one is

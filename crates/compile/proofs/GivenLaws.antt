@@ -1,14 +1,7 @@
--- What a value gives, carried along equations; joins of lists where one may be too wide.
-use Rattle.std.proofs.Common.{◌≡◌, ℕ, List, None, Option, sym, refl, ap, ◌∙◌, subst}
+-- Joins of lists where one may be too wide.
+use Rattle.std.proofs.Common.{◌≡◌, ℕ, List, None, Option, sym, refl, ap, ◌∙◌}
 use Rattle.rules.specs.Sets.{Sets, too_wide, sets, join_or, join_and}
-use Rattle.compile.specs.declared.list.DutyList.{DutyList}
-use Rattle.compile.specs.Listed.{items, IsList, Gives}
-
-pub given : (r : Option DutyList) (s t : Sets) → t ≡ s → Gives r s → Gives r t
-given r s t e h = subst (Gives r) (sym e) h
-
-pub given_none : (r : Option DutyList) (s : Sets) → r ≡ None → s ≡ too_wide → Gives r s
-given_none r s e h = subst (λ q. Gives q s) (sym e) h
+use Rattle.compile.specs.Listed.{told}
 
 -- what is made from a list that is too wide is too wide
 pub record Strict (join : Sets → Sets → Sets) : Type 0 where
@@ -23,12 +16,10 @@ pub and_strict : Strict join_and
 unfolding join_and
 and_strict = record { left = λ t. refl; right = λ xs. refl }
 
-module _ (join : Sets → Sets → Sets) (strict : Strict join) (s t : Sets) where
-  pub wide_left : s ≡ too_wide → join s t ≡ too_wide
-  wide_left e = ap (λ u. join u t) e ∙ strict.left t
+-- what a join of two lists comes to, from what they are
+module _ (join : Sets → Sets → Sets) (strict : Strict join) {s t : Sets} {r : Option (List ℕ)} where
+  pub wide_left : s ≡ too_wide → r ≡ None → join s t ≡ told r
+  wide_left e n = ap (λ u. join u t) e ∙ strict.left t ∙ ap told (sym n)
 
-  pub wide_right : (x : DutyList) → IsList x s → t ≡ too_wide → join s t ≡ too_wide
-  wide_right x a e = (λ i. join (a.is i) (e i)) ∙ strict.right (items x)
-
-  pub joined : (x y : DutyList) (r : Option DutyList) → IsList x s → IsList y t → Gives r (join (sets (items x)) (sets (items y))) → Gives r (join s t)
-  joined x y r a b h = given r _ _ (λ i. join (a.is i) (b.is i)) h
+  pub wide_right : {xs : List ℕ} → s ≡ sets xs → t ≡ too_wide → r ≡ None → join s t ≡ told r
+  wide_right {xs} d e n = (λ j. join (d j) (e j)) ∙ strict.right xs ∙ ap told (sym n)

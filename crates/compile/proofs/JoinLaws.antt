@@ -1,8 +1,15 @@
--- A sift, one set at a time, and the front of a list.
-use Rattle.std.proofs.Common.{◌≡◌, ℕ, ◌+◌, ◌-◌, ◌<◌, ◌≤◌, true, false, cond, List, [], ◌∷◌, ◌++◌, length, get_or, take, drop, ap, ◌∙◌, le_refl, arith, length-append}
-use Rattle.std.proofs.lemmas.List.{at_drop_more, length-take-le}
+-- A sift, one set at a time, and the front of a list that is written.
+use Rattle.std.proofs.Common.{◌≡◌, ℕ, ◌+◌, ◌-◌, ◌<◌, ◌≤◌, true, false, cond, ◌||◌, List, [], ◌∷◌, ◌++◌, length, get_or, take, drop, sym, refl, ap, ◌∙◌, le_refl, arith, length-append}
+use Rattle.std.proofs.lemmas.List.{append_assoc, at_drop_more, length-take-le, take-append-le}
+use lib.Seq.{take-length}
 use Rattle.std.proofs.lemmas.Bool.{cond-true, cond-false, cond_both}
-use Rattle.rules.specs.Sets.{covered, sifted}
+use Rattle.std.specs.List.{list_any}
+use Rattle.rules.specs.Sets.{within, covered, sifted}
+
+-- a set contains one of these where a test of each says so
+pub covered_any : (ys : List ℕ) (x : ℕ) → list_any (λ y. within y x) ys ≡ covered ys x
+covered_any [] x = refl
+covered_any (y ∷ ys) x = ap (λ b. within y x || b) (covered_any ys x)
 
 -- a sift drops nothing that is kept
 pub sifted_no_shorter : (kept xs : List ℕ) → length kept ≤ length (sifted kept xs)
@@ -22,9 +29,9 @@ module _ (kept xs : List ℕ) (i : ℕ) (h : i < length xs) where
   unfolding sifted
   sifted_takes e = at_drop_more (sifted kept) xs i 0 h ∙ ap (λ l. sifted l (drop (i + 1) xs)) (cond-false _ _ _ e)
 
--- what `xs[0..n]` is, and how long
-pub front_is : (n : ℕ) (xs : List ℕ) → take (n - 0) xs ≡ take n xs
-front_is n xs = ap (λ k. take k xs) (omega arith)
-
-pub front_length : (n : ℕ) (xs : List ℕ) → n ≤ length xs → length (take (n - 0) xs) ≡ n
-front_length n xs h = ap length (front_is n xs) ∙ length-take-le n xs h
+-- the front of a list whose middle was written
+pub take_mid : (a b : ℕ) (xs row rest : List ℕ) → a ≤ length xs → a ≤ b → length row ≡ b - a → take b (take a xs ++ (row ++ rest)) ≡ take a xs ++ row
+take_mid a b xs row rest inside le width =
+    let front = take a xs ++ row in
+    let long : b ≡ length front = omega (arith, length-append (take a xs) row, length-take-le a xs inside) in
+    ap (take b) (sym (append_assoc (take a xs) row rest)) ∙ ap (λ n. take n (front ++ rest)) long ∙ take-append-le (length front) front rest (omega arith) ∙ take-length front

@@ -49,12 +49,3 @@ members_lowest n p h = lowest_in 32 0 n p h ∙ ap (λ i. i ∷ digits_set 32 0 
 pub members_none : members 0 ≡ []
 unfolding members digits_set
 members_none = refl
-
-pub trailing_below : (d n : ℕ) → 0 < n → n < 2 ^ d → count_trailing_zeros d n < d
-unfolding count_trailing_zeros
-trailing_below zero n p h = absurd (omega arith)
-trailing_below (suc d) n p h =
-    ⊎_elim
-    (λ even. rw even (omega (arith, trailing_below d (n / 2) (omega arith) (omega (arith, pow-suc 2 d)))))
-    (λ odd. rw odd (omega arith))
-    (odd_or_even n)

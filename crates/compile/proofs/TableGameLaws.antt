@@ -1,5 +1,5 @@
 -- The game of a store that holds a compiled rule is the rule's game.
-use Rattle.std.proofs.Common.{◌≡◌, ℕ, zero, suc, ◌-◌, ◌*◌, ◌^◌, ◌<◌, ◌≤◌, min, true, false, cond, ◌&&◌, ◌||◌, ltb, leb, List, [], ◌∷◌, length, get_or, sym, ap, ◌∙◌, subst, ap₂, ⊎_elim, arith, pow_mono}
+use Rattle.std.proofs.Common.{◌≡◌, ℕ, zero, suc, ◌-◌, ◌^◌, ◌<◌, ◌≤◌, min, true, false, cond, ◌&&◌, ◌||◌, ltb, leb, List, [], ◌∷◌, length, get_or, sym, ap, ◌∙◌, subst, ap₂, ⊎_elim, arith, pow_mono}
 use lib.Arith.{digits_lt, digits_div, digits_mod}
 use lib.ListN.{get_or-eq_default}
 use Rattle.std.proofs.lemmas.List.{get_or-replicate, length-replicate}
@@ -26,13 +26,6 @@ use Rattle.compile.specs.TableGame.{move_in, arena_in}
 -- at most four signals make at most 16 numbers
 pub few_numbers : (o : ℕ) → o ≤ 4 → 2 ^ o ≤ 16
 few_numbers o l = pow_mono l
-
--- the number of a round is below 256
-pub turn_low : (o x y : ℕ) → o ≤ 4 → x < 16 → y < 2 ^ o → turn_number o x y < 256
-turn_low o x y l a b =
-    let m : turn_number o x y < 16 * 2 ^ o = digits_lt a b in
-    let n : 2 ^ o ≤ 16 = few_numbers o l in
-    omega arith
 
 -- the unused entry moves nowhere
 pub unused_move : (t : ℕ) → get_or unused.moves t 0 ≡ 0

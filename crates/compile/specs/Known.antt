@@ -1,21 +1,14 @@
 -- Lists that were made before, kept by the number of their part.
--- played: a turn as a round of the definitions. join_duty, join_set: one step of a list after a round. Knows: what an entry says. Remembers: a memory of lists is right.
--- Outlines: a rule's parts with the numbers of their duties.
-use Rattle.std.specs.Prelude.{◌≡◌, ℕ, ◌<◌, ◌≤◌, List, length, slice_index, slice_index_or}
+-- join_duty, join_set: one step of a list after a round. Knows: what an entry says. Remembers: a memory of lists is right.
+-- remembers_prop: it says that in one way at most, as a fact of a struct must.
+use Rattle.std.specs.Prelude.{◌≡◌, ℕ, List, length, Some, None, Option, slice_index_or, refl}
+use Rattle.std.specs.Coded.{Coded, Coded-set, code_by, coded_ℕ, coded_list, coded_option, Unit-prop, Π_prop}
 use Rattle.arena.specs.Tally.{Played}
 use Rattle.rules.specs.declared.part.Part.{Part}
-use Rattle.rules.specs.Sets.{Sets, too_wide}
-use Rattle.rules.specs.Parts.{part, Falls, duty_number, duty_part}
-use Rattle.compile.specs.declared.progress.Known.{Known}
-use Rattle.compile.specs.declared.progress.Known.TheVariants.{Unknown, Wide, List as Made}
-use Rattle.compile.specs.declared.progress.Turn.{Turn}
-use Rattle.compile.specs.declared.outline.Outline.{Outline}
-use Rattle.rules.specs.Sets.{join_or, join_and}
+use Rattle.rules.specs.Sets.{Sets, too_wide, sets, join_or, join_and}
+use Rattle.rules.specs.Parts.{duty_part}
 use Rattle.rules.specs.Progress.{part_after, set_after}
-use Rattle.compile.specs.Listed.{IsList}
-
-abbrev pub played : Turn → Played
-played t = record { input = t.input; output = t.output }
+use Rattle.compile.specs.Listed.{told}
 
 -- one duty more of a set after the round, and one set more of a list
 abbrev pub join_duty : List Part → Played → Sets → ℕ → Sets
@@ -24,25 +17,34 @@ join_duty ps r all d = join_and all (part_after ps r (duty_part ps d))
 abbrev pub join_set : List Part → Played → Sets → ℕ → Sets
 join_set ps r any x = join_or any (set_after ps r x)
 
--- what an entry says of a list
-abbrev pub Knows : Sets → Known → Type 0
-Knows s Unknown = Unit {0}
-Knows s Wide = s ≡ too_wide
-Knows s (Made l) = IsList l s
+-- what an entry says of a list: nothing yet, that it is too wide, or what it is
+abbrev pub Knows : Sets → Option (Option (List ℕ)) → Type 0
+Knows s None = Unit {0}
+Knows s (Some l) = s ≡ told l
 
 -- entry k, where it is known, is the list f k
-pub record Remembers (f : ℕ → Sets) (memory : List Known) : Type 0 where
+pub record Remembers (f : ℕ → Sets) (memory : List (Option (Option (List ℕ)))) : Type 0 where
   pub long : length memory ≡ 64
-  pub right : (k : ℕ) → Knows (f k) (slice_index_or memory k Unknown)
+  pub right : (k : ℕ) → Knows (f k) (slice_index_or memory k None)
 
--- the parts that an outline speaks of
-abbrev pub parts_in : Outline → List Part
-parts_in o = o.parts.now
+-- a list or too wide, as what a join came to
+abbrev given : Sets → Option (List ℕ)
+given too_wide = None
+given (sets l) = Some l
 
--- the sides of each part have smaller numbers; numbers has the duty number of each part, owners the part of each duty
-pub record Outlines (o : Outline) : Type 0 where
-  pub short : length (parts_in o) ≤ 64
-  pub falls : (k : ℕ) → Falls k (part (parts_in o) k)
-  pub numbers : (k : ℕ) → k < length (parts_in o) → slice_index o.numbers k ≡ duty_number (parts_in o) k
-  pub duties : duty_number (parts_in o) (length (parts_in o)) ≤ 32
-  pub owners : (d : ℕ) → d < 32 → slice_index o.owners d ≡ duty_part (parts_in o) d
+given_told : (s : Sets) → told (given s) ≡ s
+given_told too_wide = refl
+given_told (sets l) = refl
+
+sets_coded : Coded Sets
+sets_coded = code_by (Option (List ℕ)) (coded_option (coded_list coded_ℕ)) given told given_told
+
+knows_prop : (s : Sets) (x : Option (Option (List ℕ))) → IsProp (Knows s x)
+knows_prop s None = Unit-prop
+knows_prop s (Some l) = Coded-set sets_coded s (told l)
+
+pub remembers_prop : (f : ℕ → Sets) (memory : List (Option (Option (List ℕ)))) → IsProp (Remembers f memory)
+remembers_prop f memory a b = λ j. record {
+  long = Coded-set coded_ℕ (length memory) 64 a.long b.long j;
+  right = Π_prop (λ k. knows_prop (f k) (slice_index_or memory k None)) a.right b.right j;
+}

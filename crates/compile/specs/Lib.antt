@@ -1,5 +1,9 @@
 pub mod Listed
+pub mod Padded
+pub mod Outlined
+pub mod Played
 pub mod Known
+pub mod Progressing
 pub mod Numbering
 pub mod Positions
 pub mod Charting

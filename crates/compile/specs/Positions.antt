@@ -1,7 +1,7 @@
 -- The positions of a compiled rule in a store.
--- unused: the zero entry. same_position: equal lists. turn_number, turn_at: the number of a round, and the round of a number.
+-- entry_of: a position that no round has left yet. unused: the zero entry. same_position: equal lists. turn_number, turn_at: the number of a round, and the round of a number.
 -- reason: why a rule does not compile. Charted: a store holds the positions and their moves.
-use Rattle.std.specs.Prelude.{◌≡◌, ℕ, ◌+◌, ◌*◌, ◌/◌, ◌%◌, ◌^◌, ◌<◌, ◌≤◌, Bool, ◌&&◌, List, [], length, get_or, replicate, Some, None, Option, ◌==◌, slice_index, slice_index_or}
+use Rattle.std.specs.Prelude.{◌≡◌, ℕ, ◌+◌, ◌*◌, ◌/◌, ◌%◌, ◌^◌, ◌<◌, ◌≤◌, Bool, List, [], length, get_or, replicate, Some, None, Option, slice_index, slice_index_or}
 use Rattle.terms.specs.declared.refusal.Refusal.{Refusal}
 use Rattle.terms.specs.declared.refusal.Refusal.TheVariants.{RuleTooLarge, StartLost, TooWide, TooManyPositions}
 use Rattle.arena.specs.Tally.{Played}
@@ -11,15 +11,18 @@ use Rattle.rules.specs.Progress.{list_after}
 use Rattle.rules.specs.Explore.{Compiled, too_large, lost_start, wide_at, too_many, positions, same_list}
 use Rattle.rules.specs.Game.{position}
 use Rattle.compile.specs.declared.position.Position.{Position}
-use Rattle.compile.specs.Listed.{IsList}
+
+-- the entry of a list that no round has left yet
+abbrev pub entry_of : List ℕ → Position
+entry_of l = record { list = l; moves = replicate 256 0 }
 
 -- the zero entry
 abbrev pub unused : Position
-unused = record { list = record { len = 0; sets = replicate 32 0 }; moves = replicate 256 0 }
+unused = entry_of []
 
 -- sameness looks at the list alone
 unfoldable pub same_position : Position → Position → Bool
-same_position x y = x.list.len == y.list.len && same_list x.list.sets y.list.sets
+same_position x y = same_list x.list y.list
 
 -- the number of the round of input x and output y among o output signals, and the round of a number
 abbrev pub turn_number : ℕ → ℕ → ℕ → ℕ
@@ -39,7 +42,7 @@ reason (positions known) = None
 -- the store holds these lists as its positions, from the first entry on, each with the number of the position that each
 -- round leads to, and zeros behind
 pub record Charted (i o : ℕ) (ps : List Part) (known : List (List ℕ)) (store : List Position) : Type 0 where
-  pub lists : (k : ℕ) → k < length known → IsList (get_or store k unused).list (sets (slice_index_or known k []))
+  pub lists : (k : ℕ) → k < length known → (get_or store k unused).list ≡ slice_index_or known k []
   pub moves : (k t : ℕ) → k < length known → t < 2 ^ i * 2 ^ o → slice_index (get_or store k unused).moves t ≡ position known (list_after ps (turn_at o t) (sets (slice_index_or known k [])))
   pub no_moves : (k t : ℕ) → k < length known → 2 ^ i * 2 ^ o ≤ t → slice_index (get_or store k unused).moves t ≡ 0
   pub rest : (k : ℕ) → length known ≤ k → slice_index_or store k unused ≡ unused

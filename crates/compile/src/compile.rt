@@ -1,5 +1,5 @@
 // Compiling the rule that two texts say.
-ghost use Rattle.std.specs.Prelude.{◌≡◌, ℕ, ◌<◌, ◌≤◌, length, replicate, slice_index_or};
+ghost use Rattle.std.specs.Prelude.{◌≡◌, ℕ, ◌<◌, ◌≤◌, length, slice_index_or};
 ghost use Rattle.rules.specs.Parts.{part, Falls, duty_number};
 ghost use Rattle.compile.specs.Positions.{unused as unused_position};
 ghost use Rattle.compile.specs.Compiling.{Builds, Compiles};
@@ -8,13 +8,12 @@ use crate::compiled::Compiled;
 use crate::explore::explore;
 use crate::outline::Outline;
 use crate::position::Position;
-use crate::progress::Known;
 use reader::read::clear_parts;
 use reader::texts::{Misread, Text, read};
 use rules::part::Part;
 use terms::refusal::Refusal;
 use words::name::Name;
-use words::signals::clear as clear_names;
+use words::signals::{Signals, clear as clear_names};
 
 // The entries that the stores must have.
 const NAMES: usize = 8;
@@ -23,35 +22,34 @@ const PARTS: usize = 64;
 
 const POSITIONS: usize = 255;
 
-// Makes each entry the zero entry.
-fn clear_positions(positions: &mut [Position])
-    ensures { positions.new ≡ replicate (length positions.old) unused_position }
+// A refusal that has no place in a text.
+fn unplaced(refusal: Refusal) -> Misread
+    ensures { result ≡ record { text = Text.Neither; refusal = refusal } }
 {
-    positions.fill(Position::unused());
+    Misread {
+        text: Text::Neither,
+        refusal,
+    }
 }
 
 // Fills the zero store with the positions of the rule that part `root` stands for, and says how many there are.
 fn build(
     parts: &[Part],
     root: usize,
-    inputs: u8,
-    outputs: u8,
+    signals: Signals,
     positions: &mut [Position],
 ) -> Result<u8, Refusal>
     requires parts { (length parts.now ≤ 64) × ((((k : ℕ) → Falls k (part parts.now k))) × ((duty_number parts.now (length parts.now) ≤ 32) × (root < length parts.now))) }
-    requires signals { (inputs ≤ 4) × (outputs ≤ 4) }
+    requires signals { (signals.inputs ≤ 4) × (signals.outputs ≤ 4) }
     requires store { (255 ≤ length positions.old) × (((k : ℕ) → slice_index_or positions.old k unused_position ≡ unused_position)) }
-    ensures { Builds inputs outputs parts.now root positions.new result }
+    ensures { Builds signals.inputs signals.outputs parts.now root positions.new result }
 {
-    let outline = Outline::of(parts);
-    let mut lists = [Known::Unknown; PARTS];
-    let Some(first) = outline.list_of(&mut lists, root) else {
-        return Err(Refusal::TooWide(0));
-    };
-    if first.is_empty() {
-        return Err(Refusal::StartLost);
-    }
-    explore(&outline, &mut lists, inputs, outputs, first, positions)
+    explore(
+        Outline::of(parts),
+        root,
+        signals,
+        &mut positions[..POSITIONS],
+    )
 }
 
 // Compiles the rule that the two texts say. Served, the stores hold the names, the parts and the positions, and
@@ -67,37 +65,28 @@ pub fn compile(
     ensures { Compiles names.old parts.old positions.old named.now ruled.now result names.new parts.new positions.new }
 {
     if names.len() < NAMES || parts.len() < PARTS || positions.len() < POSITIONS {
-        let refusal = Refusal::StoreTooShort;
-        return Err(Misread {
-            text: Text::Neither,
-            refusal,
-        });
+        return Err(unplaced(Refusal::StoreTooShort));
     }
-    clear_positions(positions);
+    positions.fill(Position::unused());
     let texts = read(named, ruled, names, parts)?;
-    let inputs = texts.signals.inputs;
-    let outputs = texts.signals.outputs;
+    let signals = texts.signals;
     let count = texts.rule.parts as usize;
     match build(
-        &parts[0..count],
+        &parts[..count],
         texts.rule.root as usize,
-        inputs,
-        outputs,
+        signals,
         positions,
     ) {
         Ok(found) => Ok(Compiled {
-            inputs,
-            outputs,
+            inputs: signals.inputs,
+            outputs: signals.outputs,
             positions: found,
         }),
         Err(refusal) => {
             clear_names(names);
             clear_parts(parts);
-            clear_positions(positions);
-            Err(Misread {
-                text: Text::Neither,
-                refusal,
-            })
+            positions.fill(Position::unused());
+            Err(unplaced(refusal))
         }
     }
 }

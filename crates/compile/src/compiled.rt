@@ -2,12 +2,12 @@
 ghost use Rattle.std.specs.Prelude.{◌≡◌, ◌^◌, ◌<◌, ◌≤◌};
 ghost use Rattle.arena.proofs.TabledLaws.{tabled_sound};
 ghost use Rattle.arena.specs.Tabled.{offered};
-ghost use Rattle.compile.specs.Positions.{turn_number};
 ghost use Rattle.compile.specs.TableGame.{arena_in, move_in};
 
 use crate::position::Position;
+use crate::turn::Turn;
 use game::game::Game;
-use game::range::is_outside;
+use game::range::Extent;
 
 // The numbers of a compiled rule.
 #[derive(Clone, Copy)]
@@ -47,24 +47,16 @@ impl Compiled {
     }
 }
 
-// The number of the round of input x and output y among o output signals.
-fn turn_number(o: u8, x: u8, y: u8) -> usize
-    requires { (o ≤ 4) × ((x < 16) × (y < 2 ^ o)) }
-    ensures { (result ≡ turn_number o x y) × (result < 256) }
+// What the store says of the move from p by a round, with so many output signals: 0 where it has no entry for p.
+// Kept: 0 for lost and for what is out of range is what a game is in this product.
+fn move_in(positions: &[Position], outputs: u8, p: u8, turn: Turn) -> u8
+    requires { (outputs ≤ 4) × ((1 ≤ p) × ((turn.input < 16) × (turn.output < 2 ^ outputs))) }
+    ensures { result ≡ move_in outputs positions.now p turn.input turn.output }
 {
-    x as usize * (1 << o) + y as usize
-}
-
-// What the store says of the move from p by x and y: 0 where it has no entry for p.
-fn move_in(positions: &[Position], o: u8, p: u8, x: u8, y: u8) -> u8
-    requires { (o ≤ 4) × ((1 ≤ p) × ((x < 16) × (y < 2 ^ o))) }
-    ensures { result ≡ move_in o positions.now p x y }
-{
-    let at = p as usize - 1;
-    if at >= positions.len() {
+    let Some(position) = positions.get(p as usize - 1) else {
         return 0;
-    }
-    positions[at].moves[turn_number(o, x, y)]
+    };
+    position.moves[turn.number(outputs)]
 }
 
 impl Game for CompiledRule<'_> {
@@ -89,12 +81,19 @@ impl Game for CompiledRule<'_> {
     }
 
     fn step(&self, p: u8, x: u8, y: u8) -> u8 {
-        let size = self.size();
-        let outputs = self.outputs();
-        if is_outside(size, self.inputs(), outputs, p, x, y) {
+        let extent = Extent {
+            size: self.size(),
+            inputs: self.inputs(),
+            outputs: self.outputs(),
+        };
+        if extent.is_outside(p, x, y) {
             return 0;
         }
-        let q = move_in(self.positions, outputs, p, x, y);
-        if q <= size { q } else { 0 }
+        let turn = Turn {
+            input: x,
+            output: y,
+        };
+        let q = move_in(self.positions, extent.outputs, p, turn);
+        if q <= extent.size { q } else { 0 }
     }
 }

@@ -1,157 +1,126 @@
 // Exploring: positions in turn, inputs ascending, outputs ascending.
-ghost use Rattle.std.specs.Prelude.{◌≡◌, ℕ, ◌*◌, ◌^◌, ◌<◌, ◌≤◌, length, slice_index_or};
-ghost use Rattle.register.specs.Places.{number, kept};
-ghost use Rattle.rules.specs.Progress.{list_of};
-ghost use Rattle.compile.specs.Listed.{items, Tidy};
-ghost use Rattle.compile.specs.Known.{played, Remembers, Outlines, parts_in};
-ghost use Rattle.compile.specs.Positions.{same_position, turn_at as turn_of, unused as unused_position};
+ghost use Rattle.std.specs.Prelude.{◌≡◌, ℕ, ◌*◌, ◌^◌, ◌<◌, ◌≤◌, max, length, slice_index_or, MatchOption};
+ghost use Rattle.compile.specs.Positions.{unused as unused_position};
+ghost use Rattle.compile.specs.Progressing.{rule};
 ghost use Rattle.compile.specs.Charting.{Stored, Enters, Goes, Charting, Leaves};
 ghost use Rattle.compile.specs.Explored.{Explores};
+ghost use Rattle.compile.specs.Compiling.{Builds};
 
 use crate::list::DutyList;
 use crate::outline::Outline;
 use crate::position::Position;
-use crate::progress::{Known, Turn};
+use crate::progress::Progress;
+use crate::turn::{Turn, count_of};
 use register::Register;
 use terms::refusal::Refusal;
-
-// How many values so many signals have.
-fn count_of(bits: u8) -> usize
-    requires { bits ≤ 4 }
-    ensures { (result ≡ 2 ^ bits) × (result ≤ 16) }
-{
-    1 << bits
-}
-
-// The round of a number.
-fn turn_at(t: usize, outputs: u8) -> Turn
-    requires { (t < 256) × (outputs ≤ 4) }
-    ensures { played result ≡ turn_of outputs t }
-{
-    let count = count_of(outputs);
-    Turn {
-        input: (t / count) as u8,
-        output: (t % count) as u8,
-    }
-}
-
-// The number of an entry among the `used` ones, which it then has; none where the store is full.
-fn registered(store: &mut [Position], used: usize, entry: Position) -> Option<usize>
-    ensures value { result ≡ number same_position entry used store.old }
-    ensures store { store.new ≡ kept same_position entry used store.old }
-{
-    let mut register = Register { store, used };
-    register.enter(entry)
-}
+use words::signals::Signals;
 
 // The number of the position with this list, from 1 on, and 0 for the empty list. A list that no position has becomes
-// that of a new one; none where there are 255 already.
-fn enter_list(positions: &mut [Position], used: usize, list: DutyList) -> Option<u8>
-    requires { (Stored used positions.old) × (Tidy list) }
-    ensures { Enters used list positions.old positions.new result }
+// that of a new one; none where the store is full.
+// Kept: 0 for the empty list, which is lost, is the number that the moves have for it.
+fn enter_list(found: &mut Register<'_, Position>, list: DutyList) -> Option<u8>
+    requires { Stored found.old.used found.old.store.now }
+    ensures enters { Enters found.old.used list found.old.store.now found.new.store.now result }
+    ensures used { MatchOption result (found.new.used ≡ found.old.used) (λ n. found.new.used ≡ max found.old.used n) }
+    ensures lender { found.new.store.ghost_name ≡ found.old.store.ghost_name }
 {
-    if list.len == 0 {
+    if list.is_empty() {
         return Some(0);
     }
-    match registered(
-        &mut positions[..255],
-        used,
-        Position {
-            list,
-            moves: [0; 256],
-        },
-    ) {
-        Some(k) => Some(k as u8 + 1),
-        None => None,
-    }
+    let k = found.enter(Position::of(list))?;
+    Some(k as u8 + 1)
 }
 
-// Round t from the position at p: the number of the position that it leads to, which the move then says.
-fn explore_round(
-    outline: &Outline<'_>,
-    lists: &mut [Known],
-    outputs: u8,
-    positions: &mut [Position],
-    used: usize,
-    p: usize,
-    t: usize,
-) -> Result<u8, Refusal>
-    requires outlined { (Outlines outline.now) × (Remembers (list_of (parts_in outline.now)) lists.old) }
-    requires round { (t < 256) × (outputs ≤ 4) }
-    requires stored { (Stored used positions.old) × (p < used) }
-    ensures goes { Goes outputs (parts_in outline.now) used p t positions.old positions.new result }
-    ensures remembered { Remembers (list_of (parts_in outline.now)) lists.new }
-{
-    let list = positions[p].list;
-    match outline.list_after(lists, turn_at(t, outputs), &list) {
-        None => Err(Refusal::TooWide(p + 1)),
-        Some(next) => match enter_list(positions, used, next) {
-            None => Err(Refusal::TooManyPositions),
-            Some(n) => {
-                positions[p].moves[t] = n;
-                Ok(n)
-            }
-        },
-    }
+// A rule that is explored: how its lists go on, and how many signals it has.
+#[derive(Drop)]
+struct Explorer<'p> {
+    progress: Progress<'p>,
+    signals: Signals,
+    ghost few_inputs: { signals.inputs ≤ 4 },
+    ghost few_outputs: { signals.outputs ≤ 4 },
 }
 
-// Every round from the position at p: how many positions there are then.
-fn explore_position(
-    outline: &Outline<'_>,
-    lists: &mut [Known],
-    inputs: u8,
-    outputs: u8,
-    positions: &mut [Position],
-    used: usize,
-    p: usize,
-) -> Result<usize, Refusal>
-    requires outlined { (Outlines outline.now) × (Remembers (list_of (parts_in outline.now)) lists.old) }
-    requires signals { (inputs ≤ 4) × (outputs ≤ 4) }
-    requires charting { (Charting (2 ^ inputs * 2 ^ outputs) outputs (parts_in outline.now) used p 0 positions.old) × (p < used) }
-    ensures leaves { Leaves inputs outputs (parts_in outline.now) used p positions.old positions.new result }
-    ensures remembered { Remembers (list_of (parts_in outline.now)) lists.new }
-{
-    let mut most = used;
-    for t in 0..count_of(inputs) * count_of(outputs) {
-        match explore_round(outline, lists, outputs, positions, most, p, t) {
-            Err(e) => return Err(e),
-            Ok(n) => {
-                if n as usize > most {
-                    most = n as usize;
-                }
-            }
+impl Explorer<'_> {
+    // Round t from the position at p: the move says the number of the position that it leads to, which is then found.
+    fn explore_round(
+        &mut self,
+        found: &mut Register<'_, Position>,
+        p: usize,
+        t: usize,
+    ) -> Result<(), Refusal>
+        requires round { t < 256 }
+        requires stored { (Stored found.old.used found.old.store.now) × (p < found.old.used) }
+        ensures goes { Goes self.old.signals.outputs (rule self.old.progress) found.old.used p t found.old.store.now found.new.used found.new.store.now result }
+        ensures rule { (rule self.new.progress ≡ rule self.old.progress) × (self.new.signals ≡ self.old.signals) }
+        ensures lender { found.new.store.ghost_name ≡ found.old.store.ghost_name }
+    {
+        let list = found.store[p].list;
+        let turn = Turn::at(t, self.signals.outputs);
+        let next = self
+            .progress
+            .list_after(turn, &list)
+            .ok_or(Refusal::TooWide(p + 1))?;
+        let n = enter_list(found, next).ok_or(Refusal::TooManyPositions)?;
+        found.store[p].moves[t] = n;
+        Ok(())
+    }
+
+    // Every round from the position at p.
+    fn explore_position(
+        &mut self,
+        found: &mut Register<'_, Position>,
+        p: usize,
+    ) -> Result<(), Refusal>
+        requires { (Charting (2 ^ self.old.signals.inputs * 2 ^ self.old.signals.outputs) self.old.signals.outputs (rule self.old.progress) found.old.used p 0 found.old.store.now) × (p < found.old.used) }
+        ensures leaves { Leaves self.old.signals.inputs self.old.signals.outputs (rule self.old.progress) found.old.used p found.old.store.now found.new.used found.new.store.now result }
+        ensures rule { (rule self.new.progress ≡ rule self.old.progress) × (self.new.signals ≡ self.old.signals) }
+        ensures lender { found.new.store.ghost_name ≡ found.old.store.ghost_name }
+    {
+        for t in 0..count_of(self.signals.inputs) * count_of(self.signals.outputs) {
+            self.explore_round(found, p, t)?;
         }
+        Ok(())
     }
-    Ok(most)
+
+    // Every position, from the first on: how many there are.
+    fn explore_all(&mut self, found: &mut Register<'_, Position>) -> Result<u8, Refusal>
+        requires first { Charting (2 ^ self.old.signals.inputs * 2 ^ self.old.signals.outputs) self.old.signals.outputs (rule self.old.progress) 1 0 0 found.old.store.now }
+        requires used { found.old.used ≡ 1 }
+        ensures explores { Explores self.old.signals.inputs self.old.signals.outputs (rule self.old.progress) (slice_index_or found.old.store.now 0 unused_position).list found.new.store.now result }
+        ensures lender { found.new.store.ghost_name ≡ found.old.store.ghost_name }
+    {
+        let mut p = 0;
+        // Kept: the work grows while it is done, so a `for` has no end to count to; this is the plainest worklist.
+        while p < found.used {
+            self.explore_position(found, p)?;
+            p += 1;
+        }
+        Ok(found.used as u8)
+    }
 }
 
-// Fills the zero store with the positions that are reached from the list `first`, and says how many there are.
+// Fills the zero store with the positions that are reached from the list of part `root`, and says how many there are.
 pub(crate) fn explore(
-    outline: &Outline<'_>,
-    lists: &mut [Known],
-    inputs: u8,
-    outputs: u8,
-    first: DutyList,
+    outline: Outline<'_>,
+    root: usize,
+    signals: Signals,
     positions: &mut [Position],
 ) -> Result<u8, Refusal>
-    requires outlined { (Outlines outline.now) × (Remembers (list_of (parts_in outline.now)) lists.old) }
-    requires signals { (inputs ≤ 4) × (outputs ≤ 4) }
-    requires first { Tidy first }
-    requires store { (255 ≤ length positions.old) × (((k : ℕ) → slice_index_or positions.old k unused_position ≡ unused_position)) }
-    ensures { Explores inputs outputs (parts_in outline.now) (items first) positions.new result }
+    requires root { root < length outline.parts.now }
+    requires signals { (signals.inputs ≤ 4) × (signals.outputs ≤ 4) }
+    requires store { (length positions.old ≡ 255) × (((k : ℕ) → slice_index_or positions.old k unused_position ≡ unused_position)) }
+    ensures { Builds signals.inputs signals.outputs outline.entry.parts.now root positions.new result }
 {
-    positions[0] = Position {
-        list: first,
-        moves: [0; 256],
-    };
-    let mut used = 1;
-    let mut p = 0;
-    while p < used {
-        match explore_position(outline, lists, inputs, outputs, positions, used, p) {
-            Err(e) => return Err(e),
-            Ok(n) => used = n,
-        }
-        p += 1;
+    let mut progress = Progress::of(outline);
+    let first = progress.list_of(root).ok_or(Refusal::TooWide(0))?;
+    if first.is_empty() {
+        return Err(Refusal::StartLost);
     }
-    Ok(used as u8)
+    positions[0] = Position::of(first);
+    let mut found = Register {
+        store: positions,
+        used: 1,
+    };
+    let mut explorer = Explorer { progress, signals };
+    explorer.explore_all(&mut found)
 }

@@ -1,41 +1,29 @@
 // "Or" and "and" of lists of duty sets.
-ghost use Rattle.std.specs.Prelude.{◌≡◌, ◌+◌, ◌*◌, ◌<◌, ◌≤◌, [], ◌∷◌, ◌++◌, map, length, take, bit_or};
-ghost use Rattle.rules.specs.Sets.{covered, sifted, trim, unions, fit, sets, join_or, join_and};
-ghost use Rattle.rules.specs.Progress.{of_true, of_false, own as own_list};
-ghost use Rattle.compile.specs.Listed.{items, Tidy, IsList, Gives};
+ghost use Rattle.std.specs.Prelude.{◌≡◌, ◌+◌, ◌*◌, ◌≤◌, [], ◌++◌, map, length, bit_or};
+ghost use Rattle.std.specs.List.{list_any};
+ghost use Rattle.rules.specs.Sets.{within, sifted, trim, unions, fit, sets, join_or, join_and};
+ghost use Rattle.compile.specs.Listed.{Gives};
 
 use crate::list::DutyList;
 
-const WIDEST: usize = 32;
-
 // Whether a set of `chosen` is contained in `x`.
 fn is_covered(chosen: &[u32], x: u32) -> bool
-    ensures { result ≡ covered chosen.now x }
+    ensures { result ≡ list_any (λ y. within y x) chosen.now }
 {
-    for y in chosen {
-        if *y & x == *y {
-            return true;
-        }
-    }
-    false
+    chosen.iter().any(|y| *y & x == *y)
 }
 
 // Of ascending sets, those that contain none before them; none where they are more than 32.
 fn sift(ascending: &[u32]) -> Option<DutyList>
     ensures { Gives result (fit (sifted [] ascending.now)) }
 {
-    let mut len = 0;
-    let mut sets = [0; 32];
+    let mut kept = DutyList::of_false();
     for x in ascending {
-        if !is_covered(&sets[0..len], *x) {
-            if len >= WIDEST {
-                return None;
-            }
-            sets[len] = *x;
-            len += 1;
+        if !is_covered(kept.as_slice(), *x) {
+            kept.push(*x)?;
         }
     }
-    Some(DutyList { len, sets })
+    Some(kept)
 }
 
 // The gathered sets with containing ones dropped; none where more than 32 are left.
@@ -46,90 +34,71 @@ fn trimmed(gathered: &mut [u32]) -> Option<DutyList>
     sift(gathered)
 }
 
-// Writes the union of `x` with each of `ys` from the place `start` on.
-fn put_row(x: u32, ys: &[u32], out: &mut [u32], start: usize)
-    requires { start + length ys.now ≤ length out.old }
-    ensures { take (start + length ys.now) out.new ≡ take start out.old ++ map (bit_or x) ys.now }
+// Writes the union of `x` with each of `ys`.
+// Kept: it writes by index, since a `zip` with `iter_mut` leaves open what the row then holds.
+fn put_row(x: u32, ys: &[u32], row: &mut [u32])
+    requires { length row.old ≡ length ys.now }
+    ensures { row.new ≡ map (bit_or x) ys.now }
 {
-    let mut at = start;
-    for y in ys {
-        out[at] = x | *y;
-        at += 1;
+    for (i, y) in ys.iter().enumerate() {
+        row[i] = x | *y;
     }
 }
 
 // Writes every union of one of `xs` with one of `ys`.
+// Kept: the rows are cut by index, since `chunks_exact_mut` asks for a width above 0 and `ys` may be empty.
 fn put_unions(xs: &[u32], ys: &[u32], out: &mut [u32])
-    requires { length xs.now * length ys.now ≤ length out.old }
-    ensures { take (length xs.now * length ys.now) out.new ≡ unions xs.now ys.now }
+    requires { length out.old ≡ length xs.now * length ys.now }
+    ensures { out.new ≡ unions xs.now ys.now }
 {
-    let mut at = 0;
-    for x in xs {
-        put_row(*x, ys, out, at);
-        at += ys.len();
+    let width = ys.len();
+    for (i, x) in xs.iter().enumerate() {
+        put_row(*x, ys, &mut out[i * width..(i + 1) * width]);
     }
 }
 
-// The list of `true`: the empty set alone.
-pub(crate) fn of_true() -> DutyList
-    ensures { IsList result of_true }
+// Writes the sets of both, one list behind the other.
+fn put_both(xs: &[u32], ys: &[u32], out: &mut [u32])
+    requires { length out.old ≡ length xs.now + length ys.now }
+    ensures { out.new ≡ xs.now ++ ys.now }
 {
-    DutyList {
-        len: 1,
-        sets: [0; 32],
-    }
-}
-
-// The list of `false`: no set.
-pub(crate) fn of_false() -> DutyList
-    ensures { IsList result of_false }
-{
-    DutyList {
-        len: 0,
-        sets: [0; 32],
-    }
-}
-
-// The list of a duty: its own set alone.
-pub(crate) fn own(duty: u8) -> DutyList
-    requires { duty < 32 }
-    ensures { IsList result (own_list duty) }
-{
-    let mut sets = [0; 32];
-    sets[0] = 1 << duty;
-    DutyList { len: 1, sets }
+    let (front, back) = out.split_at_mut(xs.len());
+    front.copy_from_slice(xs);
+    back.copy_from_slice(ys);
 }
 
 // Every set of the two lists.
 pub(crate) fn either(a: &DutyList, b: &DutyList) -> Option<DutyList>
-    requires { (Tidy a.now) × (Tidy b.now) }
-    ensures { Gives result (join_or (sets (items a.now)) (sets (items b.now))) }
+    ensures { Gives result (join_or (sets a.now) (sets b.now)) }
 {
-    // A set's union with the empty set is the set itself.
-    let mut gathered = [0; 64];
-    put_row(0, &a.sets[0..a.len], &mut gathered, 0);
-    put_row(0, &b.sets[0..b.len], &mut gathered, a.len);
-    trimmed(&mut gathered[0..a.len + b.len])
+    let xs = a.as_slice();
+    let ys = b.as_slice();
+    let mut room = [0; 64];
+    let gathered = &mut room[..xs.len() + ys.len()];
+    put_both(xs, ys, gathered);
+    trimmed(gathered)
 }
 
 // Every union of one set from each, gathered in `room`.
-fn both_in(a: &DutyList, b: &DutyList, room: &mut [u32]) -> Option<DutyList>
-    requires { (Tidy a.now) × ((Tidy b.now) × (a.now.len * b.now.len ≤ length room.old)) }
-    ensures { Gives result (join_and (sets (items a.now)) (sets (items b.now))) }
+fn both_in(xs: &[u32], ys: &[u32], room: &mut [u32]) -> Option<DutyList>
+    requires { length xs.now * length ys.now ≤ length room.old }
+    ensures { Gives result (join_and (sets xs.now) (sets ys.now)) }
 {
-    put_unions(&a.sets[0..a.len], &b.sets[0..b.len], room);
-    trimmed(&mut room[0..a.len * b.len])
+    let gathered = &mut room[..xs.len() * ys.len()];
+    put_unions(xs, ys, gathered);
+    trimmed(gathered)
 }
 
 // Every union of one set from each.
 pub(crate) fn both(a: &DutyList, b: &DutyList) -> Option<DutyList>
-    requires { (Tidy a.now) × (Tidy b.now) }
-    ensures { Gives result (join_and (sets (items a.now)) (sets (items b.now))) }
+    ensures { Gives result (join_and (sets a.now) (sets b.now)) }
 {
+    let xs = a.as_slice();
+    let ys = b.as_slice();
     // Most lists are short, and clearing the long room costs more than the join.
-    if a.len * b.len <= 64 {
-        both_in(a, b, &mut [0; 64])
+    if xs.len() * ys.len() <= 64 {
+        both_in(xs, ys, &mut [0; 64])
     } else {
-        both_in(a, b, &mut [0; 1024])
+        both_in(xs, ys, &mut [0; 1024])
     }
 }

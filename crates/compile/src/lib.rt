@@ -6,6 +6,8 @@ pub mod compiled;
 mod explore;
 mod join;
 pub mod list;
+mod memo;
 mod outline;
 pub mod position;
 mod progress;
+mod turn;

@@ -1,24 +1,25 @@
 // A rule's parts with the numbers of their duties.
 ghost use Rattle.std.specs.Prelude.{◌≡◌, ℕ, ◌≤◌, length};
 ghost use Rattle.rules.specs.Parts.{part, Falls, duty_number};
-ghost use Rattle.compile.specs.Known.{Outlines, parts_in};
+ghost use Rattle.compile.specs.Outlined.{Outlines, outlines_prop};
 
 use rules::part::Part;
 
 // The parts of a rule, the duty number of each, and the part of each duty.
+// Kept: the two arrays lead opposite ways, from parts to duties and back, and no index reads both.
 #[derive(Clone, Copy)]
 pub(crate) struct Outline<'p> {
     pub(crate) parts: &'p [Part],
     pub(crate) numbers: [u8; 64],
     pub(crate) owners: [u8; 32],
+    ghost outlines: { Outlines parts.now numbers owners } by { outlines_prop parts.now numbers owners },
 }
 
 impl<'p> Outline<'p> {
     // Numbers the duties of a rule's parts in the order of the parts.
     pub(crate) fn of(parts: &'p [Part]) -> Outline<'p>
         requires { (length parts.now ≤ 64) × ((((k : ℕ) → Falls k (part parts.now k))) × (duty_number parts.now (length parts.now) ≤ 32)) }
-        ensures outlines { Outlines result }
-        ensures same { parts_in result ≡ parts.now }
+        ensures { result.parts.now ≡ parts.now }
     {
         let mut numbers = [0; 64];
         let mut owners = [parts.len() as u8; 32];

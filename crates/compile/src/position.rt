@@ -1,7 +1,7 @@
 // A position of a compiled rule.
-ghost use Rattle.compile.specs.Positions.{same_position, unused as unused_position};
 ghost use Rattle.std.specs.Prelude.{◌≡◌, refl};
 ghost use Rattle.std.proofs.Common.{sym, ◌∙◌};
+ghost use Rattle.compile.specs.Positions.{same_position, entry_of, unused as unused_position};
 ghost use Rattle.compile.specs.Same.{same_position_decides};
 
 use crate::list::DutyList;
@@ -16,17 +16,21 @@ pub struct Position {
 }
 
 impl Position {
+    // The position of a list, before any round has left it.
+    pub(crate) fn of(list: DutyList) -> Position
+        ensures { result ≡ entry_of list }
+    {
+        Position {
+            list,
+            moves: [0; 256],
+        }
+    }
+
     // An entry that no position uses: all zero.
     pub fn unused() -> Position
         ensures { result ≡ unused_position }
     {
-        Position {
-            list: DutyList {
-                len: 0,
-                sets: [0; 32],
-            },
-            moves: [0; 256],
-        }
+        Position::of(DutyList::of_false())
     }
 }
 
@@ -34,16 +38,13 @@ impl Position {
 impl Same for Position {
     ghost same = { same_position };
 
-    ghost reflexive = { λ x. (same_position_decides x x).1 (refl, refl) };
+    ghost reflexive = { λ x. (same_position_decides x x).1 refl };
 
-    ghost symmetric = { λ x y h. let e = (same_position_decides x y).0 h in (same_position_decides y x).1 (sym e.0, sym e.1) };
+    ghost symmetric = { λ x y h. (same_position_decides y x).1 (sym ((same_position_decides x y).0 h)) };
 
-    ghost transitive = { λ x y z h k.
-        let e = (same_position_decides x y).0 h in
-        let f = (same_position_decides y z).0 k in
-        (same_position_decides x z).1 (e.0 ∙ f.0, e.1 ∙ f.1) };
+    ghost transitive = { λ x y z h k. (same_position_decides x z).1 ((same_position_decides x y).0 h ∙ (same_position_decides y z).0 k) };
 
     fn same_as(&self, other: &Position) -> bool {
-        self.list.len == other.list.len && self.list.sets == other.list.sets
+        self.list.as_slice() == other.list.as_slice()
     }
 }

@@ -2,8 +2,8 @@
 ghost use Rattle.std.specs.Prelude.{◌≡◌, ◌≤◌, length, Some, None, MatchResult};
 ghost use Rattle.std.specs.Slice.Iter.{iter_rest};
 
-use std::fmt;
 use std::slice::Iter;
+use thiserror::Error;
 
 // How the program is called.
 pub const USAGE: &str = "usage:
@@ -29,65 +29,45 @@ pub struct Sources<'a> {
     pub second: Option<Source<'a>>,
 }
 
+// What is to be done with a game: a file is given for its book where the command needs one.
 #[derive(Clone, Copy)]
 pub enum Command<'a> {
-    Solve(Sources<'a>, Option<&'a str>),
-    Show(Sources<'a>),
-    Check(Sources<'a>, &'a str),
-    Run(Sources<'a>, &'a str),
-}
-
-impl<'a> Command<'a> {
-    pub(crate) fn sources(&self) -> Sources<'a> {
-        match self {
-            Command::Solve(sources, _) => *sources,
-            Command::Show(sources) => *sources,
-            Command::Check(sources, _) => *sources,
-            Command::Run(sources, _) => *sources,
-        }
-    }
+    Solve(Option<&'a str>),
+    Show,
+    Check(&'a str),
+    Run(&'a str),
 }
 
 // What is to be done: a command over games, or the parts of a rule over signals, each in a file.
 #[derive(Clone, Copy)]
 pub enum Task<'a> {
-    Over(Command<'a>),
+    Over(Sources<'a>, Command<'a>),
     Parts(&'a str, &'a str),
 }
 
 // Why the words are no command.
-#[derive(Clone, Copy)]
+#[derive(Clone, Copy, Debug, Error)]
 pub enum Misuse<'a> {
+    #[error("no command is given")]
     NoCommand,
+    #[error("'{0}' is no command")]
     UnknownCommand(&'a str),
+    #[error("'{0}' has no meaning here")]
     UnknownWord(&'a str),
+    #[error("nothing stands after {0}")]
     NothingAfter(&'a str),
+    #[error("no source of a game is given")]
     NoSource,
+    #[error("more than two sources are given")]
     ThirdSource,
+    #[error("a second file for the book is given, '{0}'")]
     SecondBook(&'a str),
+    #[error("show writes no book, and '{0}' is given for one")]
     NoBookHere(&'a str),
+    #[error("no book is given")]
     NoBook,
+    #[error("parts needs --rule and two files, and nothing else")]
     NoRule,
-}
-
-impl fmt::Display for Misuse<'_> {
-    fn fmt<W: fmt::Write>(&self, f: &mut fmt::Formatter<W>) -> fmt::Result {
-        match self {
-            Misuse::NoCommand => write!(f, "no command is given"),
-            Misuse::UnknownCommand(word) => write!(f, "'{word}' is no command"),
-            Misuse::UnknownWord(word) => write!(f, "'{word}' has no meaning here"),
-            Misuse::NothingAfter(word) => write!(f, "nothing stands after {word}"),
-            Misuse::NoSource => write!(f, "no source of a game is given"),
-            Misuse::ThirdSource => write!(f, "more than two sources are given"),
-            Misuse::SecondBook(file) => write!(f, "a second file for the book is given, '{file}'"),
-            Misuse::NoBookHere(file) => write!(
-                f,
-                "show writes no book, and '{file}' is given for one"
-            ),
-            Misuse::NoBook => write!(f, "no book is given"),
-            Misuse::NoRule => write!(f, "parts needs --rule and two files, and nothing else"),
-        }
-    }
 }
 
 // What the words ask for, the program's own name first.
@@ -97,7 +77,11 @@ pub(crate) fn parse<'a>(words: &'a [String]) -> Result<Task<'a>, Misuse<'a>> {
     };
     match verb.as_str() {
         "parts" => parts(rest),
-        other => Ok(Task::Over(over_games(other, rest)?)),
+        "solve" => Options::read(rest)?.solve(),
+        "show" => Options::read(rest)?.show(),
+        "check" => Options::read(rest)?.with_book(Command::Check),
+        "run" => Options::read(rest)?.with_book(Command::Run),
+        other => Err(Misuse::UnknownCommand(other)),
     }
 }
 
@@ -112,19 +96,8 @@ fn parts<'a>(words: &'a [String]) -> Result<Task<'a>, Misuse<'a>> {
     }
 }
 
-// The command over games that the words give.
-fn over_games<'a>(verb: &'a str, rest: &'a [String]) -> Result<Command<'a>, Misuse<'a>> {
-    match verb {
-        "solve" => Options::read(rest)?.solve(),
-        "show" => Options::read(rest)?.show(),
-        "check" => Options::read(rest)?.check(),
-        "run" => Options::read(rest)?.run(),
-        other => Err(Misuse::UnknownCommand(other)),
-    }
-}
-
 // What the words after the command say.
-#[derive(Clone, Copy)]
+#[derive(Clone, Copy, Default)]
 struct Options<'a> {
     first: Option<Source<'a>>,
     second: Option<Source<'a>>,
@@ -133,11 +106,7 @@ struct Options<'a> {
 
 impl<'a> Options<'a> {
     fn read(words: &'a [String]) -> Result<Options<'a>, Misuse<'a>> {
-        let mut options = Options {
-            first: None,
-            second: None,
-            book: None,
-        };
+        let mut options = Options::default();
         let mut rest = words.iter();
         while let Some(word) = rest.next() {
             match word.as_str() {
@@ -151,12 +120,10 @@ impl<'a> Options<'a> {
 
     // One source more.
     fn add(&mut self, source: Source<'a>) -> Result<(), Misuse<'a>> {
-        if self.first.is_none() {
-            self.first = Some(source);
-        } else if self.second.is_none() {
-            self.second = Some(source);
-        } else {
-            return Err(Misuse::ThirdSource);
+        match (self.first, self.second) {
+            (None, _) => self.first = Some(source),
+            (_, None) => self.second = Some(source),
+            _ => return Err(Misuse::ThirdSource),
         }
         Ok(())
     }
@@ -175,38 +142,31 @@ impl<'a> Options<'a> {
     fn sources(&self) -> Result<Sources<'a>, Misuse<'a>>
         ensures { MatchResult result (λ s. (self.now.first ≡ Some s.first) × (s.second ≡ self.now.second)) (λ _. self.now.first ≡ None) }
     {
-        let Some(first) = self.first else {
-            return Err(Misuse::NoSource);
-        };
-        Ok(Sources {
-            first,
-            second: self.second,
-        })
+        let first = self.first.ok_or(Misuse::NoSource)?;
+        let second = self.second;
+        Ok(Sources { first, second })
     }
 
-    fn solve(&self) -> Result<Command<'a>, Misuse<'a>> {
-        Ok(Command::Solve(self.sources()?, self.book))
+    fn solve(&self) -> Result<Task<'a>, Misuse<'a>> {
+        Ok(Task::Over(self.sources()?, Command::Solve(self.book)))
     }
 
-    fn show(&self) -> Result<Command<'a>, Misuse<'a>> {
+    fn show(&self) -> Result<Task<'a>, Misuse<'a>> {
         match self.book {
             Some(file) => Err(Misuse::NoBookHere(file)),
-            None => Ok(Command::Show(self.sources()?)),
+            None => Ok(Task::Over(self.sources()?, Command::Show)),
         }
     }
 
-    fn check(&self) -> Result<Command<'a>, Misuse<'a>> {
-        match self.book {
-            Some(file) => Ok(Command::Check(self.sources()?, file)),
-            None => Err(Misuse::NoBook),
-        }
-    }
-
-    fn run(&self) -> Result<Command<'a>, Misuse<'a>> {
-        match self.book {
-            Some(file) => Ok(Command::Run(self.sources()?, file)),
-            None => Err(Misuse::NoBook),
-        }
+    // A command that needs a book.
+    fn with_book<F: FnOnce(&'a str) -> Command<'a>>(
+        &self,
+        command: F,
+    ) -> Result<Task<'a>, Misuse<'a>>
+        requires { F.IsAlwaysCallable command }
+    {
+        let file = self.book.ok_or(Misuse::NoBook)?;
+        Ok(Task::Over(self.sources()?, command(file)))
     }
 }
 
@@ -214,8 +174,6 @@ impl<'a> Options<'a> {
 fn after<'a>(word: &'a str, rest: &mut Iter<'a, String>) -> Result<&'a str, Misuse<'a>>
     ensures { length (iter_rest rest.new) ≤ length (iter_rest rest.old) }
 {
-    match rest.next() {
-        Some(next) => Ok(next.as_str()),
-        None => Err(Misuse::NothingAfter(word)),
-    }
+    let next = rest.next().ok_or(Misuse::NothingAfter(word))?;
+    Ok(next.as_str())
 }

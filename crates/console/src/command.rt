@@ -11,23 +11,20 @@ use book::accept::accept;
 use book::solve::solve;
 use game::game::{Game, input_count};
 use game::pair::Pair;
+use std::process::ExitCode;
 use std::{env, fs, io};
 use terms::refusal::Refusal;
 
 // How long the book of 255 positions is.
 const LONGEST: usize = 6128;
 
-// What main returns once the fault is printed.
-#[derive(Drop)]
-pub struct Failed;
-
-// Obeys the words of the command line, and says on the standard error what went wrong.
-pub fn main_of(rt: &HostRuntime) -> Result<(), Failed> {
+// Obeys the words of the command line, and says on the standard error what went wrong: status 1.
+pub fn main_of(rt: &HostRuntime) -> ExitCode {
     match words_of(rt) {
         Ok(words) => report(rt, run(rt, words.as_slice())),
         Err(error) => {
             let _ = eprintln!(rt; "cannot read the command line: {error}");
-            Err(Failed)
+            ExitCode::FAILURE
         }
     }
 }
@@ -37,43 +34,48 @@ fn words_of(rt: &HostRuntime) -> io::Result<Vec<String>> {
     Ok(env::args(rt)?.collect(rt.alloc())?)
 }
 
-fn report(rt: &HostRuntime, res: Result<(), Fault>) -> Result<(), Failed> {
-    let Err(fault) = res else {
-        return Ok(());
-    };
-    let _ = eprintln!(rt; "{fault}");
-    Err(Failed)
+fn report(rt: &HostRuntime, res: Result<(), Fault>) -> ExitCode {
+    match res {
+        Ok(()) => ExitCode::SUCCESS,
+        Err(fault) => {
+            let _ = eprintln!(rt; "{fault}");
+            ExitCode::FAILURE
+        }
+    }
 }
 
 fn run<'a>(rt: &HostRuntime, words: &'a [String]) -> Result<(), Fault<'a>> {
     match parse(words)? {
-        Task::Over(command) => run_over(rt, command),
+        Task::Over(sources, command) => run_over(rt, sources, command),
         Task::Parts(signals, rule) => show_parts(rt, signals, rule),
     }
 }
 
-fn run_over<'a>(rt: &HostRuntime, command: Command<'a>) -> Result<(), Fault<'a>> {
-    let Sources { first, second } = command.sources();
+fn run_over<'a>(
+    rt: &HostRuntime,
+    sources: Sources<'a>,
+    command: Command<'a>,
+) -> Result<(), Fault<'a>> {
+    let Sources { first, second } = sources;
     let first = Loaded::read(rt, first)?;
     let Some(second) = second else {
-        return obey(rt, &command, &first.game()?);
+        return obey(rt, command, &first.game()?);
     };
     let second = Loaded::read(rt, second)?;
     let pair = Pair {
         first: first.named_game()?,
         second: second.named_game()?,
     };
-    obey(rt, &command, &pair)
+    obey(rt, command, &pair)
 }
 
-fn obey<'a, G: Game>(rt: &HostRuntime, command: &Command<'a>, game: &G) -> Result<(), Fault<'a>> {
+fn obey<'a, G: Game>(rt: &HostRuntime, command: Command<'a>, game: &G) -> Result<(), Fault<'a>> {
     match command {
-        Command::Solve(_, file) => solve_game(rt, game, *file)?,
-        Command::Show(_) => show_game(rt, game)?,
-        Command::Check(_, file) => check_book(rt, game, *file)?,
-        Command::Run(_, file) => run_game(rt, game, *file)?,
+        Command::Solve(file) => solve_game(rt, game, file),
+        Command::Show => show_game(rt, game),
+        Command::Check(file) => check_book(rt, game, file),
+        Command::Run(file) => run_game(rt, game, file),
     }
-    Ok(())
 }
 
 // Solves the game, prints the table, and writes the book where a file is named for it.
@@ -84,7 +86,7 @@ fn solve_game<'a, G: Game>(
 ) -> Result<(), Fault<'a>> {
     let mut store = vec![in rt.alloc(); 0u8; LONGEST]?;
     let length = solve(game, store.as_mut_slice())?;
-    let book = store.as_slice().get(0..length).unwrap_or(&[]);
+    let book = store.as_slice().get(..length).unwrap_or(&[]);
     let outline = Outline::of(game);
     let table = Table {
         book,
@@ -95,10 +97,7 @@ fn solve_game<'a, G: Game>(
     let Some(file) = file else {
         return Ok(());
     };
-    match fs::write(rt, file, book) {
-        Ok(()) => Ok(()),
-        Err(error) => Err(Fault::Unwritten(file, error)),
-    }
+    fs::write(rt, file, book).map_err(|error| Fault::Unwritten(file, error))
 }
 
 // Prints the game's moves.

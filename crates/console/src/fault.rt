@@ -3,71 +3,39 @@ use crate::args::{Misuse, USAGE};
 use crate::parts::Mark;
 use crate::phrases::Line;
 use std::alloc::AllocError;
-use std::{fmt, io};
+use std::io;
 use terms::refusal::Refusal;
+use thiserror::Error;
 
-#[derive(Drop)]
+#[derive(Debug, Drop, Error)]
 pub enum Fault<'a> {
+    #[error("{0}")]
+    Refused(Line),
     // The file is named where there are two that can be wrong.
-    Refused(Refusal, Option<&'a str>),
+    #[error("{0} (in {1})")]
+    RefusedIn(Line, &'a str),
     // The refusal of a text, with its file and its line.
-    Marked(Refusal, &'a str, Mark),
-    Misused(Misuse<'a>),
+    #[error("{0} (in {1})\n{2}")]
+    Marked(Line, &'a str, Mark),
+    #[error("{0}\n{USAGE}")]
+    Misused(#[from] Misuse<'a>),
+    #[error("cannot read {0}: {1}")]
     Unreadable(&'a str, io::Error),
+    #[error("cannot write {0}: {1}")]
     Unwritten(&'a str, io::Error),
-    Unprinted(io::Error),
+    #[error("cannot print: {0}")]
+    Unprinted(#[from] io::Error),
+    #[error("cannot read the standard input: {0}")]
     NoInput(io::Error),
-    NoMemory,
+    #[error("no memory is left")]
+    NoMemory(#[from(alloc)] AllocError),
     // A replayed row differs from what was told, which the contract of replaying rules out.
+    #[error("the replayed row was told otherwise")]
     Unkept,
-}
-
-impl fmt::Display for Fault<'_> {
-    fn fmt<W: fmt::Write>(&self, f: &mut fmt::Formatter<W>) -> fmt::Result {
-        match self {
-            Fault::Refused(refusal, None) => {
-                let line = Line(*refusal);
-                write!(f, "{line}")
-            }
-            Fault::Refused(refusal, Some(file)) => {
-                let line = Line(*refusal);
-                write!(f, "{line} (in {file})")
-            }
-            Fault::Marked(refusal, file, mark) => {
-                let line = Line(*refusal);
-                write!(f, "{line} (in {file})\n{mark}")
-            }
-            Fault::Misused(misuse) => write!(f, "{misuse}\n{USAGE}"),
-            Fault::Unreadable(file, error) => write!(f, "cannot read {file}: {error}"),
-            Fault::Unwritten(file, error) => write!(f, "cannot write {file}: {error}"),
-            Fault::Unprinted(error) => write!(f, "cannot print: {error}"),
-            Fault::NoInput(error) => write!(f, "cannot read the standard input: {error}"),
-            Fault::NoMemory => write!(f, "no memory is left"),
-            Fault::Unkept => write!(f, "the replayed row was told otherwise"),
-        }
-    }
-}
-
-impl<'a> From<Misuse<'a>> for Fault<'a> {
-    fn from(misuse: Misuse<'a>) -> Fault<'a> {
-        Fault::Misused(misuse)
-    }
 }
 
 impl<'a> From<Refusal> for Fault<'a> {
     fn from(refusal: Refusal) -> Fault<'a> {
-        Fault::Refused(refusal, None)
-    }
-}
-
-impl<'a> From<io::Error> for Fault<'a> {
-    fn from(error: io::Error) -> Fault<'a> {
-        Fault::Unprinted(error)
-    }
-}
-
-impl<'a> From<AllocError> for Fault<'a> {
-    fn from(_error: AllocError) -> Fault<'a> {
-        Fault::NoMemory
+        Fault::Refused(Line(refusal))
     }
 }

@@ -22,7 +22,7 @@ pub(crate) fn print_texts<'a>(
     print_parts(
         rt,
         &names,
-        parts.get(0..texts.rule.parts as usize).unwrap_or(&[]),
+        parts.get(..texts.rule.parts as usize).unwrap_or(&[]),
     )?;
     let parts = texts.rule.parts;
     let duties = texts.rule.duties;
@@ -42,7 +42,7 @@ fn print_parts<'a>(rt: &HostRuntime, names: &Names, parts: &[Part]) -> Result<()
     let mut duties = 0usize;
     for (k, part) in parts.iter().enumerate() {
         let body = Body { part: *part, names };
-        if is_duty(*part) {
+        if part.is_duty() {
             println!(rt; "part {k}: {body}, duty {duties}")?;
             duties = duties.saturating_add(1);
         } else {
@@ -50,16 +50,6 @@ fn print_parts<'a>(rt: &HostRuntime, names: &Names, parts: &[Part]) -> Result<()
         }
     }
     Ok(())
-}
-
-// A literal, an X part or an R part.
-fn is_duty(part: Part) -> bool {
-    match part {
-        Part::Literal(_, _) => true,
-        Part::Next(_) => true,
-        Part::Release(_, _) => true,
-        _ => false,
-    }
 }
 
 // The names of the signals, the inputs first.
@@ -73,7 +63,8 @@ impl Names {
     fn of(rt: &HostRuntime, names: &[Name], inputs: u8) -> Result<Names, AllocError> {
         let mut texts = Vec::new(rt.alloc());
         for name in names {
-            let bytes = name.bytes.get(0..length_of(name)).unwrap_or(&[]);
+            // zeros stand behind a name
+            let bytes = name.bytes.split(|b| *b == 0).next().unwrap_or(&[]);
             texts.push(String::from_utf8_lossy(rt.alloc(), bytes)?)?;
         }
         Ok(Names { inputs, texts })
@@ -84,21 +75,8 @@ impl Names {
             Signal::Input(k) => k as usize,
             Signal::Output(k) => self.inputs as usize + k as usize,
         };
-        match self.texts.get(k) {
-            Some(name) => name.as_str(),
-            None => "",
-        }
+        self.texts.get(k).map_or("", |name| name.as_str())
     }
-}
-
-// How many bytes of a name are no padding.
-fn length_of(name: &Name) -> usize {
-    for (i, b) in name.bytes.iter().enumerate() {
-        if *b == 0 {
-            return i;
-        }
-    }
-    8
 }
 
 // What a part is, by the numbers of its sides.

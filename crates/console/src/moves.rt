@@ -24,6 +24,7 @@ impl<G: Game> fmt::Display for Turn<'_, G> {
 }
 
 // Where a round leads, 0 where it is lost.
+// Kept: it is what a game's move says.
 #[derive(Clone, Copy)]
 struct Outcome(u8);
 

@@ -1,6 +1,7 @@
 // The parts of a rule, printed, and the line of a text that is refused.
 use crate::fault::Fault;
 use crate::listing::print_texts;
+use crate::phrases::Line;
 use crate::source::read_file;
 use reader::texts::{Misread, Text, read};
 use rules::part::Part;
@@ -27,17 +28,17 @@ pub(crate) fn show_parts<'a>(
             },
         ) => {
             let mark = Mark::at(rt, ruled.as_slice(), refusal.place())?;
-            Err(Fault::Marked(refusal, rule, mark))
+            Err(Fault::Marked(Line(refusal), rule, mark))
         }
         Err(Misread { text: _, refusal }) => {
             let mark = Mark::at(rt, named.as_slice(), refusal.place())?;
-            Err(Fault::Marked(refusal, signals, mark))
+            Err(Fault::Marked(Line(refusal), signals, mark))
         }
     }
 }
 
 // The line of a text that has a place, and how far the place stands in it.
-#[derive(Drop)]
+#[derive(Debug, Drop)]
 pub struct Mark {
     line: String,
     column: usize,
@@ -46,8 +47,8 @@ pub struct Mark {
 impl Mark {
     fn at(rt: &HostRuntime, text: &[u8], place: usize) -> Result<Mark, AllocError> {
         let start = line_start(text, place);
-        let rest = text.get(start..text.len()).unwrap_or(&[]);
-        let line = rest.get(0..line_length(rest)).unwrap_or(&[]);
+        let rest = text.get(start..).unwrap_or(&[]);
+        let line = rest.split(|b| *b == b'\n').next().unwrap_or(&[]);
         Ok(Mark {
             line: String::from_utf8_lossy(rt.alloc(), line)?,
             column: place.saturating_sub(start),
@@ -58,31 +59,16 @@ impl Mark {
 impl fmt::Display for Mark {
     fn fmt<W: fmt::Write>(&self, f: &mut fmt::Formatter<W>) -> fmt::Result {
         let line = self.line.as_str();
-        write!(f, "{line}\n")?;
-        for _ in 0..self.column {
-            write!(f, " ")?;
-        }
-        write!(f, "^")
+        let column = self.column;
+        write!(f, "{line}\n{:column$}^", "")
     }
 }
 
 // Where the line of a place begins.
 fn line_start(text: &[u8], place: usize) -> usize {
-    let mut start = 0;
-    for (i, b) in text.iter().enumerate() {
-        if i < place && *b == b'\n' {
-            start = i + 1;
-        }
+    let before = text.get(..place).unwrap_or(text);
+    match before.iter().rposition(|b| *b == b'\n') {
+        Some(k) => k + 1,
+        None => 0,
     }
-    start
-}
-
-// How many bytes stand before the first line feed.
-fn line_length(text: &[u8]) -> usize {
-    for (i, b) in text.iter().enumerate() {
-        if *b == b'\n' {
-            return i;
-        }
-    }
-    text.len()
 }

@@ -1,6 +1,7 @@
 // Games from where they are kept.
 use crate::args::Source;
 use crate::fault::Fault;
+use crate::phrases::Line;
 use game::diagram::Diagram;
 use std::fs;
 use terms::refusal::Refusal;
@@ -26,17 +27,12 @@ impl<'a> Loaded<'a> {
 
     // The same, where a refusal has to say which of two files it is about.
     pub(crate) fn named_game(&self) -> Result<Diagram<'_>, Fault<'a>> {
-        match self.game() {
-            Ok(game) => Ok(game),
-            Err(refusal) => Err(Fault::Refused(refusal, Some(self.file))),
-        }
+        self.game()
+            .map_err(|refusal| Fault::RefusedIn(Line(refusal), self.file))
     }
 }
 
 // The bytes of a file.
 pub(crate) fn read_file<'a>(rt: &HostRuntime, file: &'a str) -> Result<Vec<u8>, Fault<'a>> {
-    match fs::read(rt, file) {
-        Ok(bytes) => Ok(bytes),
-        Err(error) => Err(Fault::Unreadable(file, error)),
-    }
+    fs::read(rt, file).map_err(|error| Fault::Unreadable(file, error))
 }

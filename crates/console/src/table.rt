@@ -34,7 +34,8 @@ struct Row<'a> {
 impl fmt::Display for Row<'_> {
     fn fmt<W: fmt::Write>(&self, f: &mut fmt::Formatter<W>) -> fmt::Result {
         let Table { book, inputs, .. } = self.table;
-        write_count(f, count_told(book, self.position))?;
+        let held = Held(count_told(book, self.position));
+        write!(f, "{held}")?;
         if let Some(x) = spoiling_told(book, self.position) {
             write!(f, ", spoiling input {x}")?;
         }
@@ -47,10 +48,16 @@ impl fmt::Display for Row<'_> {
     }
 }
 
-fn write_count<W: fmt::Write>(f: &mut fmt::Formatter<W>, count: Count) -> fmt::Result {
-    match count {
-        Count::Lost => write!(f, "lost"),
-        Count::Limited(n) => write!(f, "limited, count {n}"),
-        Count::Unlimited => write!(f, "unlimited"),
+// How long a position can be held: its status, and its count where that is limited.
+#[derive(Clone, Copy)]
+struct Held(Count);
+
+impl fmt::Display for Held {
+    fn fmt<W: fmt::Write>(&self, f: &mut fmt::Formatter<W>) -> fmt::Result {
+        match self.0 {
+            Count::Lost => write!(f, "lost"),
+            Count::Limited(n) => write!(f, "limited, count {n}"),
+            Count::Unlimited => write!(f, "unlimited"),
+        }
     }
 }

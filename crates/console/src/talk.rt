@@ -42,10 +42,8 @@ fn numbered_call(verb: &str, number: u8) -> Option<Call> {
 
 // A number that no game has is as good as 255.
 fn number_of(word: &str) -> Option<u8> {
-    match word.parse::<u64>() {
-        Ok(n) => Some(if n < 255 { n as u8 } else { 255 }),
-        Err(_) => None,
-    }
+    let n = word.parse::<u64>().ok()?;
+    Some(u8::try_from(n).unwrap_or(255))
 }
 
 // A reply as a line.

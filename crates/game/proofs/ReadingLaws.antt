@@ -1,28 +1,30 @@
 -- Steps of reading a diagram: what each turn of a loop adds, and what the ends of the loops say of the image.
-use Rattle.std.proofs.Common.{◌≡◌, ℕ, zero, suc, ◌+◌, ◌-◌, ◌*◌, ◌^◌, ◌<◌, ◌≤◌, Bool, true, false, cond, leb, ◌⊎◌, List, [], ◌∷◌, ◌++◌, length, get_or, set, replicate, is_ok, IsErrAnd, Ok, Err, Result, sym, refl, ap, ◌∙◌, subst, inl, inr, arith, pow_mono, MatchResult}
-use Rattle.std.proofs.lemmas.List.{append-nil, append_assoc, get_or-set_same, get_or-set_other}
-use Rattle.std.proofs.lemmas.Bool.{cases_lt, cases_eq, cases_Bool, true≢false}
+use Rattle.std.proofs.Common.{◌≡◌, ℕ, zero, suc, ◌+◌, ◌-◌, ◌*◌, ◌^◌, ◌<◌, ◌≤◌, Bool, true, false, List, [], ◌∷◌, ◌++◌, length, get_or, set, replicate, is_ok, IsErrAnd, Ok, Err, Result, sym, refl, ap, ◌∙◌, subst, inl, inr, arith, pow_mono, MatchResult}
+use Rattle.std.proofs.lemmas.List.{append_assoc, get_or-set_same, get_or-set_other}
+use Rattle.std.proofs.lemmas.Bool.Decides.{nat_tests}
+use Rattle.std.proofs.lemmas.Bool.{cases_lt, cases_eq, cases_Bool, true≢false, le-leb, cond-true}
 use Rattle.terms.specs.declared.shape.Shape.{Shape}
 use Rattle.terms.specs.declared.refusal.Refusal.{Refusal}
-use Rattle.arena.specs.Diagram.{shape_of, head_at, record_at, next_at, input_of, output_of, Record, RecordRight, Fielded, Path, Chain, Chains, Distinct, Linked, Unrepeated, WellFormed, First, IndexWrong, Unreached, Repeated, Refused, sought}
+use Rattle.terms.specs.declared.refusal.Refusal.TheVariants.{DiagramField}
+use Rattle.arena.specs.Diagram.{shape_of, head_at, record_at, next_at, input_of, output_of, Record, RecordRight, Fielded, Path, Chain, Chains, Distinct, Linked, Unrepeated, WellFormed, First, IndexWrong, Unreached, Repeated, Refused, sought, drawable}
 use Rattle.terms.specs.Bytes.{byte, word}
-use Rattle.arena.proofs.ChainLaws.{in_left, in_right, in_either, distinct_push, path_push, path_records, chain_once, chains_part, unrepeated_none, unrepeated_push}
+use Rattle.arena.proofs.ChainLaws.{in_left, in_right, in_either, distinct_push, path_push, chain_once, chains_part, unrepeated_none, unrepeated_push}
 use Rattle.arena.proofs.DrawnLaws.{sought_here, sought_past}
 use Rattle.arena.proofs.OutcomeLaws.{one_refusal, well_formed_not_refused}
-use Rattle.game.specs.Reading.{RightBelow, Marks, Followed, ChainWhole, ChainBroken, ChainsWhole, ChainsBroken, MoveNumber, MovesMarked, Met, ChainRepeats, ChainsFresh, ChainsRepeat}
+use Rattle.game.specs.Reading.{RefusesFirst, RightBelow, Marks, Followed, ChainWhole, ChainBroken, ChainsWhole, ChainsBroken, MoveNumber, MovesMarked, Met, ChainRepeats, ChainsFresh, ChainsRepeat}
 
 -- ---- fields
 
--- the fields of record r are right too
-pub right_more : (h : Shape) (bs : List ℕ) (r k : ℕ) → 1 ≤ r → k ≡ record_at h r → RightBelow h bs (record_at h r) → byte bs k < 2 ^ h.inputs → byte bs (k + 1) < 2 ^ h.outputs → (1 ≤ byte bs (k + 2)) × (byte bs (k + 2) ≤ h.size) → byte bs (k + 3) ≡ 0 → word bs (k + 6) ≡ 0 → RightBelow h bs (record_at h (r + 1))
-right_more h bs r k low at below input output destination gap tail j l = elim (cases_lt j (record_at h r)) [
+-- the fields of record r that begin in its first n bytes are right too
+pub right_part : (h : Shape) (bs : List ℕ) (r k n : ℕ) → 1 ≤ r → k ≡ record_at h r → n ≤ 8 → RightBelow h bs (record_at h r) → (0 < n → byte bs k < 2 ^ h.inputs) → (1 < n → byte bs (k + 1) < 2 ^ h.outputs) → (2 < n → (1 ≤ byte bs (k + 2)) × (byte bs (k + 2) ≤ h.size)) → (3 < n → byte bs (k + 3) ≡ 0) → (6 < n → word bs (k + 6) ≡ 0) → RightBelow h bs (k + n)
+right_part h bs r k n low at most below input output destination gap tail j l = elim (cases_lt j (record_at h r)) [
   | inl b ↦ below j b
   | inr b ↦ record {
-    input = λ q i e. let s : j ≡ k = omega arith in rw s input;
-    output = λ q i e. let s : j ≡ k + 1 = omega arith in rw s output;
-    destination = λ q i e. let s : j ≡ k + 2 = omega arith in rw s destination;
-    gap = λ q i e. let s : j ≡ k + 3 = omega arith in rw s gap;
-    tail = λ q i e. let s : j ≡ k + 6 = omega arith in rw s tail;
+    input = λ q i e. let s : j ≡ k = omega arith in rw s (input (omega arith));
+    output = λ q i e. let s : j ≡ k + 1 = omega arith in rw s (output (omega arith));
+    destination = λ q i e. let s : j ≡ k + 2 = omega arith in rw s (destination (omega arith));
+    gap = λ q i e. let s : j ≡ k + 3 = omega arith in rw s (gap (omega arith));
+    tail = λ q i e. let s : j ≡ k + 6 = omega arith in rw s (tail (omega arith));
   }
 ]
 
@@ -38,6 +40,11 @@ right_all h bs r past below j = elim (cases_lt j (record_at h r)) [
     tail = λ q i e. absurd (omega arith);
   }
 ]
+
+-- a call that passes on the refusal of a field, behind which all are right, refuses the first wrong one
+pub passed_first : {T : Type 0} (r : Result T Refusal) (d : Refusal) (k : ℕ) (P : T → Type 0) (Q : ℕ → Type 0) → IsErrAnd r (λ f. f ≡ d) → d ≡ DiagramField k → First Q k → MatchResult r P (RefusesFirst Q)
+passed_first (Ok x) d k P Q is e f = absurd is
+passed_first (Err g) d k P Q is e f = (k, is ∙ e, f)
 
 -- ---- marks of records
 
@@ -65,11 +72,6 @@ marks_more h marks qs r m i l = record {
 }
 
 module _ (h : Shape) (bs : List ℕ) (p : ℕ) (qs : List ℕ) where
-  -- nothing of the chain is followed yet
-  pub followed_none : (marks : List Bool) (k : ℕ) → Distinct qs → Marks h marks qs → k ≡ head_at p → Followed h bs p qs k marks
-  followed_none marks k d m e =
-      record { along = []; path = sym e; apart = rw append-nil d; seen = rw append-nil m }
-
   -- one more record is followed
   pub followed_more : (marks : List Bool) (k r j : ℕ) → Followed h bs p qs k marks → r ≡ word bs k → Record h r → r < length marks → get_or marks r false ≡ false → j ≡ next_at h r → Followed h bs p qs j (set marks r true)
   followed_more marks k r j f w i l u e =
@@ -80,22 +82,6 @@ module _ (h : Shape) (bs : List ℕ) (p : ℕ) (qs : List ℕ) where
         apart = subst Distinct more (distinct_push (qs ++ f.along) r f.apart (λ g. true≢false (sym (f.seen.listed r g).1 ∙ u)));
         seen = subst (Marks h (set marks r true)) more (marks_more h marks (qs ++ f.along) r f.seen i l);
       }
-
-  -- the chain ends
-  pub followed_whole : (marks : List Bool) (k : ℕ) → Followed h bs p qs k marks → word bs k ≡ 0 → ChainWhole h bs p qs marks
-  followed_whole marks k f z = record { records = f.along; chain = (k, f.path, z); apart = f.apart; seen = f.seen }
-
-  -- its index names no record, or one that is marked
-  pub followed_broken : (marks : List Bool) (k r : ℕ) → Followed h bs p qs k marks → r ≡ word bs k → 1 ≤ r → (h.records < r) ⊎ (get_or marks r false ≡ true) → ChainBroken h bs p qs k
-  followed_broken marks k r f e l w = record {
-    along = f.along;
-    path = f.path;
-    apart = f.apart;
-    wrong = rw (sym e) (elim (cases_lt h.records r) [
-      | inl g ↦ inl g
-      | inr g ↦ inr (elim w [ inl o ↦ absurd (omega arith) | inr t ↦ f.seen.marked r (l, g) t ])
-    ]);
-  }
 
 -- ---- whole chains
 
@@ -152,14 +138,7 @@ module _ (h : Shape) (bs : List ℕ) (fielded : Fielded bs) (same : h ≡ shape_
         at = e ∙ ap (λ s. record_at s r) same;
       }
 
-  -- every record is in one chain
-  pub whole_linked : (marks : List Bool) → ChainsWhole h bs h.size marks → ((q : ℕ) → Record h q → get_or marks q false ≡ true) → (rs : List ℕ) × Linked bs rs
-  whole_linked marks w f =
-      let c = subst (λ s. ChainsWhole s bs s.size marks) same w in
-      let g = subst (λ s. (q : ℕ) → Record s q → get_or marks q false ≡ true) same f in
-      (c.records, record { fielded = fielded; chains = c.chains; apart = c.apart; reached = λ r i. c.seen.marked r i (g r i) })
-
-  -- so each position has a chain
+  -- each position has a chain, where every record is in one
   pub linked_chain : (p : ℕ) → 1 ≤ p → p ≤ h.size → (rs : List ℕ) × Linked bs rs → (ts : List ℕ) × Chain h bs p ts
   linked_chain p l g w =
       let e : suc (p - 1) ≡ p = omega arith in
@@ -204,12 +183,13 @@ fresh_repeat h bs p r l g f c =
     let e : suc (p - 1) ≡ p = omega arith in
     record { position = p - 1; more = omega arith; before = f; repeats = subst (λ n. ChainRepeats h bs n r) (sym e) c }
 
--- what repeats a move is a record
-pub repeat_record : (h : Shape) (bs : List ℕ) (r : ℕ) → ChainsRepeat h bs r → Record h r
-repeat_record h bs r c =
-    path_records h bs (c.repeats.along ++ r ∷ []) (head_at (suc c.position)) (next_at h r) c.repeats.path r (in_right c.repeats.along (r ∷ []) r (inl refl))
-
 -- ---- moves
+
+-- a record of a right image leads to a position
+pub destination_low : (h : Shape) (bs : List ℕ) (r j : ℕ) → Fielded bs → h ≡ shape_of bs → Record h r → j ≡ record_at h r → byte bs (j + 2) ≤ h.size
+destination_low h bs r j f e i at =
+    let low = ((f.right _).destination r (subst (λ s. Record s r) e i) refl).1 in
+    rw (at, e) low
 
 -- a record of a right image is for an input and an output below 16
 pub move_low : (h : Shape) (bs : List ℕ) (r : ℕ) → Fielded bs → h ≡ shape_of bs → Record h r → (input_of h bs r < 16) × (output_of h bs r < 16)
@@ -221,6 +201,12 @@ move_low h bs r f e i =
     let low-in = (f.right _).input r is refl in
     let low-out = (f.right _).output r is refl in
     subst (λ s. (input_of s bs r < 16) × (output_of s bs r < 16)) (sym e) (omega arith, omega arith)
+
+-- so its two bytes make the number of its move
+pub move_number : (h : Shape) (bs : List ℕ) (r j x y : ℕ) → Fielded bs → h ≡ shape_of bs → Record h r → j ≡ record_at h r → x ≡ byte bs j → y ≡ byte bs (j + 1) → MoveNumber h bs r (16 * x + y)
+move_number h bs r j x y f same i at a b =
+    let low = move_low h bs r f same i in
+    record { input = low.0; output = low.1; is = rw (a, b, at) refl }
 
 -- one more move is marked
 pub moves_more : (h : Shape) (bs : List ℕ) (marks : List Bool) (qs : List ℕ) (r n : ℕ) → MovesMarked h bs marks qs → MoveNumber h bs r n → n < length marks → MovesMarked h bs (set marks n true) (qs ++ r ∷ [])
@@ -255,65 +241,83 @@ module _ (h : Shape) (bs : List ℕ) (p : ℕ) where
     ends = c.1.2;
   }
 
-  -- an index that is not 0 names a record, and the chain goes on behind it
-  met_next : (marks : List Bool) (k r : ℕ) (m : Met h bs p k marks) → r ≡ word bs k → 1 ≤ r → Record h r × ((ts : List ℕ) × Path h bs (next_at h r) ts m.last)
-  met_next marks k r m e l = go m.rest m.ahead
+  -- behind an index that names a record the chain goes on
+  met_next : (marks : List Bool) (k : ℕ) (m : Met h bs p k marks) → Record h (word bs k) → (ts : List ℕ) × Path h bs (next_at h (word bs k)) ts m.last
+  met_next marks k m i = go m.rest m.ahead
     where
-      go : (rest : List ℕ) → Path h bs k rest m.last → Record h r × ((ts : List ℕ) × Path h bs (next_at h r) ts m.last)
-      go [] z = absurd (omega (arith, ap (word bs) z, m.ends))
-      go (q ∷ rest) c = let s : q ≡ r = sym (e ∙ c.0) in (subst (Record h) s c.1, (rest, subst (λ v. Path h bs (next_at h v) rest m.last) s c.2))
+      go : (rest : List ℕ) → Path h bs k rest m.last → (ts : List ℕ) × Path h bs (next_at h (word bs k)) ts m.last
+      go [] z = absurd (omega (arith, ap (word bs) z, m.ends, i.0))
+      go (q ∷ rest) c = (rest, subst (λ v. Path h bs (next_at h v) rest m.last) (sym c.0) c.2)
 
-  -- so it is a record's
-  pub met_record : (marks : List Bool) (k r : ℕ) → Met h bs p k marks → r ≡ word bs k → 1 ≤ r → Record h r
-  met_record marks k r m e l = (met_next marks k r m e l).0
+  -- and it ends at one that names none
+  met_ends : (marks : List Bool) (k : ℕ) (m : Met h bs p k marks) → (Record h (word bs k) → ⊥) → word bs k ≡ 0
+  met_ends marks k m n = go m.rest m.ahead
+    where
+      go : (rest : List ℕ) → Path h bs k rest m.last → word bs k ≡ 0
+      go [] z = ap (word bs) z ∙ m.ends
+      go (q ∷ rest) c = absurd (n (subst (Record h) (sym c.0) c.1))
 
   -- the record repeats a move
-  pub met_again : (marks : List Bool) (k r n : ℕ) → Met h bs p k marks → r ≡ word bs k → 1 ≤ r → MoveNumber h bs r n → get_or marks n false ≡ true → ChainRepeats h bs p r
-  met_again marks k r n m e l a t = record {
+  pub met_again : (marks : List Bool) (k n : ℕ) → Met h bs p k marks → Record h (word bs k) → MoveNumber h bs (word bs k) n → get_or marks n false ≡ true → ChainRepeats h bs p (word bs k)
+  met_again marks k n m i a t = record {
     along = m.along;
-    path = path_push h bs m.along r (head_at p) k m.path (sym e) (met_record marks k r m e l);
+    path = path_push h bs m.along (word bs k) (head_at p) k m.path refl i;
     fresh = m.fresh;
     repeats = m.seen.marked _ _ a.input a.output (rw a.is at t);
   }
 
   -- one more record is met
-  pub met_more : (marks : List Bool) (k r n j : ℕ) → Met h bs p k marks → r ≡ word bs k → 1 ≤ r → MoveNumber h bs r n → n < length marks → get_or marks n false ≡ false → j ≡ next_at h r → Met h bs p j (set marks n true)
-  met_more marks k r n j m e l a g u at =
-      let next = met_next marks k r m e l in
+  pub met_more : (marks : List Bool) (k n j : ℕ) → Met h bs p k marks → Record h (word bs k) → MoveNumber h bs (word bs k) n → n < length marks → get_or marks n false ≡ false → j ≡ next_at h (word bs k) → Met h bs p j (set marks n true)
+  met_more marks k n j m i a g u at =
+      let next = met_next marks k m i in
       record {
-        along = m.along ++ r ∷ [];
-        path = rw at (path_push h bs m.along r (head_at p) k m.path (sym e) next.0);
-        seen = moves_more h bs marks m.along r n m.seen a g;
-        fresh = unrepeated_push h bs m.along r m.fresh (λ again.
+        along = m.along ++ word bs k ∷ [];
+        path = rw at (path_push h bs m.along (word bs k) (head_at p) k m.path refl i);
+        seen = moves_more h bs marks m.along (word bs k) n m.seen a g;
+        fresh = unrepeated_push h bs m.along (word bs k) m.fresh (λ again.
             let same : 16 * input_of h bs again.0 + output_of h bs again.0 ≡ n = omega (arith, again.2, again.3, a.is) in
             true≢false (sym (m.seen.listed again.0 again.1) ∙ ap (λ v. get_or marks v false) same ∙ u));
-        rest = next.1.0;
+        rest = next.0;
         last = m.last;
-        ahead = rw at next.1.1;
+        ahead = rw at next.1;
         ends = m.ends;
       }
 
   -- the chain ends
-  pub met_whole : (marks : List Bool) (k : ℕ) → Met h bs p k marks → word bs k ≡ 0 → (rs : List ℕ) → Chain h bs p rs → Unrepeated h bs rs
-  met_whole marks k m z rs c = subst (Unrepeated h bs) (chain_once h bs p m.along rs (k, m.path, z) c) m.fresh
+  pub met_whole : (marks : List Bool) (k : ℕ) → Met h bs p k marks → (Record h (word bs k) → ⊥) → (rs : List ℕ) → Chain h bs p rs → Unrepeated h bs rs
+  met_whole marks k m n rs c = subst (Unrepeated h bs) (chain_once h bs p m.along rs (k, m.path, met_ends marks k m n) c) m.fresh
+
+-- ---- the drawn game
+
+-- the numbers of a right header are a game's
+pub right_drawable : (bs : List ℕ) → Fielded bs → (shape_of bs).size ≤ 255 → drawable (shape_of bs) ≡ true
+unfolding drawable
+right_drawable bs f small =
+    let right = f.measured.headed.right in
+    let inputs = (right 0).inputs refl in
+    let outputs = (right 1).outputs refl in
+    let start = (right 3).start refl in
+    grind (arith, nat_tests)
 
 -- ---- the search for a move
 
--- the record r, which the index at k names, stands at the place j
-module _ (h : Shape) (bs : List ℕ) (x y m n k r j : ℕ) (left : m ≡ suc n) (names : r ≡ word bs k) (is : Record h r) (at : j ≡ record_at h r) where
-  -- it is for the move
-  pub seek_here : byte bs j ≡ x → byte bs (j + 1) ≡ y → sought h bs m k x y ≡ cond (leb (byte bs (j + 2)) h.size) (byte bs (j + 2)) 0
-  seek_here a b =
-      let s : j ≡ record_at h (word bs k) = at ∙ ap (record_at h) names in
-      rw (left, s) (sought_here h bs x y n k (subst (Record h) names is) (rw s at a, rw s at b))
+-- the record that the index at k names stands at the place j
+module _ (h : Shape) (bs : List ℕ) (x y m n k j : ℕ) (left : m ≡ suc n) (is : Record h (word bs k)) (at : j ≡ record_at h (word bs k)) where
+  -- it is for the move, and leads to a position
+  pub seek_here : byte bs j ≡ x → byte bs (j + 1) ≡ y → byte bs (j + 2) ≤ h.size → sought h bs m k x y ≡ byte bs (j + 2)
+  seek_here a b low =
+      rw (left, at) (sought_here h bs x y n k is (rw at at a, rw at at b) ∙ cond-true _ _ _ (le-leb _ _ (rw at at low)))
 
   -- it is for another
   pub seek_past : ((byte bs j ≡ x) × (byte bs (j + 1) ≡ y) → ⊥) → sought h bs m k x y ≡ sought h bs n (j + 4) x y
-  seek_past other =
-      let s : j ≡ record_at h (word bs k) = at ∙ ap (record_at h) names in
-      rw (left, s) (sought_past h bs x y n k (subst (Record h) names is) (rw s at other))
+  seek_past other = rw (left, at) (sought_past h bs x y n k is (rw at at other))
 
 -- ---- the outcome
+
+-- a call that passes the refusal d on refuses the image
+pub passed_on : {T : Type 0} (bs : List ℕ) (d : Refusal) (r : Result T Refusal) (P : T → Type 0) → IsErrAnd r (λ f. f ≡ d) → Refused bs d → MatchResult r P (λ f. Refused bs f)
+passed_on bs d (Ok x) P is w = absurd is
+passed_on bs d (Err f) P is w = subst (Refused bs) (sym is) w
 
 -- a call that passes the refusal d on has the one outcome of the image
 pub passed : {T : Type 0} (bs : List ℕ) (d : Refusal) (r : Result T Refusal) (P : T → Type 0) → IsErrAnd r (λ f. f ≡ d) → Refused bs d → record { outcome : MatchResult r P (λ f. Refused bs f); served : WellFormed bs → is_ok r ≡ true; refused : (e : Refusal) → Refused bs e → MatchResult r (λ _. ⊥) (λ f. f ≡ e) }

@@ -1,16 +1,18 @@
 -- What the steps of reading a diagram keep.
 use Rattle.std.specs.Prelude.{◌≡◌, ℕ, suc, ◌+◌, ◌*◌, ◌<◌, ◌≤◌, Bool, true, false, ◌⊎◌, List, [], ◌∷◌, ◌++◌, slice_index_or}
 use Rattle.terms.specs.declared.shape.Shape.{Shape}
+use Rattle.terms.specs.declared.refusal.Refusal.{Refusal}
+use Rattle.terms.specs.declared.refusal.Refusal.TheVariants.{DiagramField}
 use Rattle.arena.specs.Diagram.{head_at, next_at, input_of, output_of, Record, RecordRight, First, Path, Chain, Chains, In, Distinct, Repeats, Unrepeated}
 use Rattle.terms.specs.Bytes.{word}
+
+-- the refusal of the field at the first place with P
+abbrev pub RefusesFirst : (ℕ → Type 0) → Refusal → Type 0
+RefusesFirst P e = (k : ℕ) × (e ≡ DiagramField k) × First P k
 
 -- every field of a record that begins below the place k is right
 abbrev pub RightBelow : Shape → List ℕ → ℕ → Type 0
 RightBelow h bs k = (j : ℕ) → j < k → RecordRight h bs j
-
--- the field of a record at the place k is the first that is wrong
-abbrev pub WrongFirst : Shape → List ℕ → ℕ → Type 0
-WrongFirst h bs = First (λ j. RecordRight h bs j → ⊥)
 
 -- the marks are those of the records qs
 pub record Marks (h : Shape) (marks : List Bool) (qs : List ℕ) : Type 0 where

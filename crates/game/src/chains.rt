@@ -1,124 +1,100 @@
 // A diagram's chains: every record is in one, and none repeats a move.
-ghost use Rattle.std.specs.Prelude.{◌≡◌, ℕ, ◌+◌, ◌*◌, ◌<◌, ◌≤◌, true, false, List, length, MatchOption, MatchResult, slice_index_or};
-ghost use Rattle.arena.specs.Diagram.{shape_of, Record, Chain, Distinct, Fielded, Linked, Unrepeated, First, Refused};
-ghost use Rattle.game.specs.Reading.{Marks, ChainWhole, ChainBroken, ChainsWhole, ChainsBroken, MoveNumber, ChainRepeats, ChainsFresh, ChainsRepeat};
+ghost use Rattle.std.specs.Prelude.{◌≡◌, ℕ, ◌^◌, ◌<◌, ◌≤◌, List, MatchOption, MatchResult};
+ghost use Rattle.arena.specs.Diagram.{record_at, Record, Chain, Distinct, Linked, Unrepeated, WellFormed, Refused};
+ghost use Rattle.terms.specs.Bytes.{word};
+ghost use Rattle.game.specs.Reading.{Marks, ChainWhole, ChainBroken, ChainsWhole, ChainRepeats};
 
+use crate::diagram::Diagram;
 use crate::fields::{head_at, record_at};
 use terms::bytes::{byte_at, word_at};
 use terms::refusal::Refusal;
-use terms::shape::Shape;
 
-// Follows the chain of p and marks its records. The answer is where an index is wrong: it names no record, or one that
-// is marked already.
-fn chain_fault(shape: Shape, bytes: &[u8], p: u8, marks: &mut [bool]) -> Option<usize>
-    requires { (1 ≤ p) × (shape.records < length marks.old) }
-    ensures { (qs : List ℕ) → Distinct qs → Marks shape marks.old qs → MatchOption result (ChainWhole shape bytes.now p qs marks.new) (ChainBroken shape bytes.now p qs) }
-{
-    let mut at = head_at(p);
-    loop {
-        let r = word_at(bytes, at);
-        if r == 0 {
+impl Diagram<'_> {
+    // Follows the chain of p and marks its records. An index is wrong where it names no record, or one that is marked
+    // already.
+    // Kept: an iterator would give records, and what is refused is the place of an index; the marks are what ends the loop.
+    fn mark_chain(&self, p: u8, marks: &mut [bool; 4001]) -> Result<(), Refusal>
+        ensures { (qs : List ℕ) → Distinct qs → Marks self.now.shape marks.old qs → MatchResult result (λ _. ChainWhole self.now.shape self.now.bytes.now p qs marks.new) (λ e. (k : ℕ) × (e ≡ Refusal.DiagramChain k) × ChainBroken self.now.shape self.now.bytes.now p qs k) }
+    {
+        let mut at = head_at(p);
+        loop {
+            let r = word_at(self.bytes, at);
+            if r == 0 {
+                return Ok(());
+            }
+            if r > self.shape.records || marks[r as usize] {
+                return Err(Refusal::DiagramChain(at));
+            }
+            marks[r as usize] = true;
+            at = record_at(self.shape, r) + 4;
+        }
+    }
+
+    // Follows every chain, by position: the marks of the records that they reach.
+    fn reached(&self) -> Result<[bool; 4001], Refusal>
+        ensures { MatchResult result (ChainsWhole self.now.shape self.now.bytes.now self.now.shape.size) (λ e. Refused self.now.bytes.now e) }
+    {
+        let mut marks = [false; 4001];
+        for p in 1..=self.shape.size {
+            self.mark_chain(p, &mut marks)?;
+        }
+        Ok(marks)
+    }
+
+    // Whether every record is in exactly one chain.
+    // Kept: with `find` over the records what it found stays an open goal, and the loop refuses where it stands.
+    pub(crate) fn check_chains(&self) -> Result<(), Refusal>
+        ensures { MatchResult result (λ _. (rs : List ℕ) × Linked self.now.bytes.now rs) (λ e. Refused self.now.bytes.now e) }
+    {
+        let marks = self.reached()?;
+        for r in 1..=self.shape.records {
+            if !marks[r as usize] {
+                return Err(Refusal::DiagramChain(record_at(self.shape, r)));
+            }
+        }
+        Ok(())
+    }
+
+    // Where the record stands that the index at a place names, if it names one.
+    pub(crate) fn record_named(&self, at: usize) -> Option<usize>
+        ensures { MatchOption result (Record self.now.shape (word self.now.bytes.now at) → ⊥) (λ j. (Record self.now.shape (word self.now.bytes.now at)) × ((j ≡ record_at self.now.shape (word self.now.bytes.now at)) × (j < 2 ^ 20))) }
+    {
+        let r = word_at(self.bytes, at);
+        if r == 0 || r > self.shape.records {
             return None;
         }
-        if r > shape.records || marks[r as usize] {
-            return Some(at);
+        Some(record_at(self.shape, r))
+    }
+
+    // Whether the chain of p repeats no move. Each move is marked as it is met, in a row of 16 for each input.
+    // Kept: the place of the next index stands in the record; an iterator over them would need a count to end by.
+    fn check_moves_of(&self, p: u8) -> Result<(), Refusal>
+        requires { (rs : List ℕ) × Chain self.now.shape self.now.bytes.now p rs }
+        ensures { MatchResult result (λ _. (rs : List ℕ) → Chain self.now.shape self.now.bytes.now p rs → Unrepeated self.now.shape self.now.bytes.now rs) (λ e. (r : ℕ) × (e ≡ Refusal.DiagramRepeat (record_at self.now.shape r)) × ChainRepeats self.now.shape self.now.bytes.now p r) }
+    {
+        let mut marks = [false; 256];
+        let mut at = head_at(p);
+        while let Some(record) = self.record_named(at) {
+            let input = byte_at(self.bytes, record) as usize;
+            let output = byte_at(self.bytes, record + 1) as usize;
+            let number = 16 * input + output;
+            if marks[number] {
+                return Err(Refusal::DiagramRepeat(record));
+            }
+            marks[number] = true;
+            at = record + 4;
         }
-        marks[r as usize] = true;
-        at = record_at(shape, r) + 4;
+        Ok(())
     }
-}
 
-// Follows every chain, by position, and marks its records.
-fn chains_fault(shape: Shape, bytes: &[u8], marks: &mut [bool]) -> Option<usize>
-    requires { (shape.records < length marks.old) × (((r : ℕ) → slice_index_or marks.old r false ≡ false)) }
-    ensures { MatchOption result (ChainsWhole shape bytes.now shape.size marks.new) (ChainsBroken shape bytes.now) }
-{
-    for p in 1..shape.size as usize + 1 {
-        if let Some(k) = chain_fault(shape, bytes, p as u8, marks) {
-            return Some(k);
+    // Whether no chain repeats a move.
+    pub(crate) fn check_moves(&self) -> Result<(), Refusal>
+        requires { (rs : List ℕ) × Linked self.now.bytes.now rs }
+        ensures { MatchResult result (λ _. WellFormed self.now.bytes.now) (λ e. Refused self.now.bytes.now e) }
+    {
+        for p in 1..=self.shape.size {
+            self.check_moves_of(p)?;
         }
-    }
-    None
-}
-
-// The lowest record that is not marked.
-fn missed_record(shape: Shape, marks: &[bool]) -> Option<u16>
-    requires { (shape.records ≤ 4000) × (shape.records < length marks.now) }
-    ensures { MatchOption result ((q : ℕ) → Record shape q → slice_index_or marks.now q false ≡ true) (First (λ q. Record shape q × (slice_index_or marks.now q false ≡ false))) }
-{
-    for r in 1..shape.records + 1 {
-        if !marks[r as usize] {
-            return Some(r);
-        }
-    }
-    None
-}
-
-// Whether every record is in exactly one chain.
-pub(crate) fn check_chains(shape: Shape, bytes: &[u8]) -> Result<(), Refusal>
-    requires { (Fielded bytes.now) × (shape ≡ shape_of bytes.now) }
-    ensures { MatchResult result (λ _. (rs : List ℕ) × Linked bytes.now rs) (λ e. Refused bytes.now e) }
-{
-    let mut marks = [false; 4001];
-    if let Some(k) = chains_fault(shape, bytes, &mut marks) {
-        return Err(Refusal::DiagramChain(k));
-    }
-    match missed_record(shape, &marks) {
-        Some(r) => Err(Refusal::DiagramChain(record_at(shape, r))),
-        None => Ok(()),
-    }
-}
-
-// The move that record r is for, as one number: a row of 16 for each input.
-fn move_of(shape: Shape, bytes: &[u8], r: u16) -> usize
-    requires { (Fielded bytes.now) × ((shape ≡ shape_of bytes.now) × (Record shape r)) }
-    ensures { MoveNumber shape bytes.now r result }
-{
-    let at = record_at(shape, r);
-    16 * byte_at(bytes, at) as usize + byte_at(bytes, at + 1) as usize
-}
-
-// The first record of the chain of p that repeats a move. Each move is marked as it is met.
-fn repeat_in(shape: Shape, bytes: &[u8], p: u8) -> Option<u16>
-    requires { (Fielded bytes.now) × ((shape ≡ shape_of bytes.now) × ((1 ≤ p) × (((rs : List ℕ) × Chain shape bytes.now p rs)))) }
-    ensures { MatchOption result ((rs : List ℕ) → Chain shape bytes.now p rs → Unrepeated shape bytes.now rs) (ChainRepeats shape bytes.now p) }
-{
-    let mut marks = [false; 256];
-    let mut at = head_at(p);
-    loop {
-        let r = word_at(bytes, at);
-        if r == 0 {
-            return None;
-        }
-        let number = move_of(shape, bytes, r);
-        if marks[number] {
-            return Some(r);
-        }
-        marks[number] = true;
-        at = record_at(shape, r) + 4;
-    }
-}
-
-// The first record, chains by position, that repeats a move of its chain.
-fn repeated_record(shape: Shape, bytes: &[u8]) -> Option<u16>
-    requires { (Fielded bytes.now) × ((shape ≡ shape_of bytes.now) × (((rs : List ℕ) × Linked bytes.now rs))) }
-    ensures { MatchOption result (ChainsFresh shape bytes.now shape.size) (ChainsRepeat shape bytes.now) }
-{
-    for p in 1..shape.size as usize + 1 {
-        if let Some(r) = repeat_in(shape, bytes, p as u8) {
-            return Some(r);
-        }
-    }
-    None
-}
-
-// Whether no chain repeats a move.
-pub(crate) fn check_moves(shape: Shape, bytes: &[u8]) -> Result<(), Refusal>
-    requires { (Fielded bytes.now) × ((shape ≡ shape_of bytes.now) × (((rs : List ℕ) × Linked bytes.now rs))) }
-    ensures { MatchResult result (λ _. ChainsFresh shape bytes.now shape.size) (λ e. Refused bytes.now e) }
-{
-    match repeated_record(shape, bytes) {
-        Some(r) => Err(Refusal::DiagramRepeat(record_at(shape, r))),
-        None => Ok(()),
+        Ok(())
     }
 }

@@ -1,33 +1,24 @@
 // A game drawn as chains of records, in bytes that the caller lends.
 ghost use Rattle.std.specs.Prelude.{◌≡◌, ◌≤◌, true, is_ok, MatchResult};
-ghost use Rattle.arena.specs.Diagram.{drawn, told, sought, head_at, WellFormed, Refused, Draws};
+ghost use Rattle.arena.specs.Diagram.{shape_of, drawable, drawn, sought, head_at, Fielded, WellFormed, Refused, Draws};
 ghost use Rattle.arena.proofs.DiagramLaws.{drawn_sound};
 
-use crate::chains::{check_chains, check_moves};
-use crate::fields::{check_fields, head_at, record_at};
+use crate::fields::{check_fields, head_at};
 use crate::game::Game;
-use crate::range::is_beyond;
-use terms::bytes::{byte_at, word_at};
+use crate::range::Extent;
+use terms::bytes::byte_at;
 use terms::refusal::Refusal;
 use terms::shape::Shape;
 
-// A diagram that was read.
+// A diagram whose length and whose fields are right, but for the indices.
 #[derive(Drop)]
 pub struct Diagram<'a> {
-    bytes: &'a [u8],
-    shape: Shape,
-}
-
-// The header of a well-formed image, or the first thing that is wrong with it.
-fn check(bytes: &[u8]) -> Result<Shape, Refusal>
-    ensures outcome { MatchResult result (λ h. WellFormed bytes.now × Draws bytes.now (drawn h bytes.now)) (λ e. Refused bytes.now e) }
-    ensures served { WellFormed bytes.now → is_ok result ≡ true }
-    ensures refused { (e : Refusal) → Refused bytes.now e → MatchResult result (λ _. ⊥) (λ f. f ≡ e) }
-{
-    let shape = check_fields(bytes)?;
-    check_chains(shape, bytes)?;
-    check_moves(shape, bytes)?;
-    Ok(shape)
+    pub(crate) bytes: &'a [u8],
+    pub(crate) shape: Shape,
+    ghost few_records: { shape.records ≤ 4000 },
+    ghost can_be_drawn: { drawable shape ≡ true },
+    ghost headed: { shape ≡ shape_of bytes.now },
+    ghost fielded: { Fielded bytes.now },
 }
 
 impl<'a> Diagram<'a> {
@@ -37,42 +28,25 @@ impl<'a> Diagram<'a> {
         ensures served { WellFormed bytes.now → is_ok result ≡ true }
         ensures refused { (e : Refusal) → Refused bytes.now e → MatchResult result (λ _. ⊥) (λ f. f ≡ e) }
     {
-        let shape = check(bytes)?;
-        Ok(Diagram { bytes, shape })
-    }
-
-    // A number of the header, or 0 where the header can be no game's.
-    fn told(&self, n: u8) -> u8
-        ensures { result ≡ told self.now.shape n }
-    {
-        let shape = self.shape;
-        if shape.inputs <= 4
-            && shape.outputs <= 4
-            && shape.start >= 1
-            && shape.start <= shape.size
-        {
-            n
-        } else {
-            0
-        }
+        let shape = check_fields(bytes)?;
+        let diagram = Diagram { bytes, shape };
+        diagram.check_chains()?;
+        diagram.check_moves()?;
+        Ok(diagram)
     }
 
     // The destination of the record for x and y in the chain of p.
+    // Kept: the place of the next index stands in the record, and the chain is walked as many steps as there are records.
     fn destination(&self, p: u8, x: u8, y: u8) -> u8
-        requires { 1 ≤ p }
         ensures { result ≡ sought self.now.shape self.now.bytes.now self.now.shape.records (head_at p) x y }
     {
-        let shape = self.shape;
         let mut at = head_at(p);
-        for _ in 0..shape.records {
-            let r = word_at(self.bytes, at);
-            if r == 0 || r > shape.records {
+        for _ in 0..self.shape.records {
+            let Some(record) = self.record_named(at) else {
                 return 0;
-            }
-            let record = record_at(shape, r);
+            };
             if byte_at(self.bytes, record) == x && byte_at(self.bytes, record + 1) == y {
-                let q = byte_at(self.bytes, record + 2);
-                return if q <= shape.size { q } else { 0 };
+                return byte_at(self.bytes, record + 2);
             }
             at = record + 4;
         }
@@ -86,23 +60,29 @@ impl Game for Diagram<'_> {
     ghost sound = { λ d. drawn_sound d.shape d.bytes.now };
 
     fn size(&self) -> u8 {
-        self.told(self.shape.size)
+        self.shape.size
     }
 
     fn inputs(&self) -> u8 {
-        self.told(self.shape.inputs)
+        self.shape.inputs
     }
 
     fn outputs(&self) -> u8 {
-        self.told(self.shape.outputs)
+        self.shape.outputs
     }
 
     fn start(&self) -> u8 {
-        self.told(self.shape.start)
+        self.shape.start
     }
 
+    #[tactic(auto, unfolding(arena::specs::Arena::beyond, arena::specs::Diagram::drawable))]
     fn step(&self, p: u8, x: u8, y: u8) -> u8 {
-        if is_beyond(self.size(), self.inputs(), self.outputs(), p, x, y) {
+        let extent = Extent {
+            size: self.size(),
+            inputs: self.inputs(),
+            outputs: self.outputs(),
+        };
+        if extent.is_outside(p, x, y) {
             return 0;
         }
         self.destination(p, x, y)

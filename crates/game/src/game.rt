@@ -5,6 +5,7 @@ ghost use Rattle.arena.specs.Arena.{Arena, Sound};
 use crate::range::count_of;
 
 // A game, by the five things that it means. A question out of range is answered 0.
+// Kept: 0 for a lost move and for more than 255 positions is what a game is in this product.
 pub trait Game {
     ghost meaning: { Self → Arena };
 
@@ -28,6 +29,7 @@ pub trait Game {
         ensures { result ≡ (meaning self.now).start };
 
     // Where a round leads from position p, under input x and output y: 0 where it is lost.
+    // Kept: three numbers, as a move has them wherever it is defined.
     fn step(&self, p: u8, x: u8, y: u8) -> u8
         ensures { result ≡ (meaning self.now).move p x y };
 }
@@ -36,20 +38,12 @@ pub trait Game {
 pub fn input_count<G: Game>(g: &G) -> u8
     ensures { (result ≡ 2 ^ (G.meaning g.now).inputs) × (result ≤ 16) }
 {
-    turns(g.inputs())
+    count_of(g.inputs())
 }
 
 // How many outputs a round can have.
 pub fn output_count<G: Game>(g: &G) -> u8
     ensures { (result ≡ 2 ^ (G.meaning g.now).outputs) × (result ≤ 16) }
 {
-    turns(g.outputs())
-}
-
-// How many inputs or outputs so many signals make.
-fn turns(signals: u8) -> u8
-    requires { signals ≤ 4 }
-    ensures { (result ≡ 2 ^ signals) × (result ≤ 16) }
-{
-    count_of(signals)
+    count_of(g.outputs())
 }

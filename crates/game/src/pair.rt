@@ -1,10 +1,10 @@
 // Two games played side by side on the same signals.
-ghost use Rattle.std.specs.Prelude.{◌≡◌, ℕ, ◌*◌, ◌%◌, ◌^◌, ◌<◌, ◌≤◌};
+ghost use Rattle.std.specs.Prelude.{◌≡◌, ℕ, ◌+◌, ◌-◌, ◌*◌, ◌%◌, ◌^◌, ◌<◌, ◌≤◌};
 ghost use Rattle.arena.proofs.PairLaws.{pair_sound};
 ghost use Rattle.arena.specs.Pair.{pair, joint, product};
 
-use crate::game::Game;
-use crate::range::{count_of, is_beyond};
+use crate::game::{Game, input_count, output_count};
+use crate::range::Extent;
 
 // Signal k of the one is signal k of the other, and a round that either loses is lost.
 #[derive(Drop)]
@@ -22,6 +22,7 @@ impl<A: Game, B: Game> Game for Pair<A, B> {
         product_of(self.first.size(), self.second.size())
     }
 
+    // Kept: two members of the trait, a line each.
     fn inputs(&self) -> u8 {
         self.first.inputs().max(self.second.inputs())
     }
@@ -31,44 +32,42 @@ impl<A: Game, B: Game> Game for Pair<A, B> {
     }
 
     fn start(&self) -> u8 {
-        let m = self.first.size();
-        let n = self.second.size();
-        if product_of(m, n) == 0 {
+        if self.size() == 0 {
             return 0;
         }
-        joint_of(m, n, self.first.start(), self.second.start())
+        joint_of(self.second.size(), self.first.start(), self.second.start())
     }
 
+    #[tactic(auto, using(arena::proofs::PairLaws::factors), unfolding(arena::specs::Arena::beyond, arena::specs::Pair::product, arena::specs::Pair::both))]
     fn step(&self, p: u8, x: u8, y: u8) -> u8 {
-        let m = self.first.size();
-        let n = self.second.size();
-        if is_beyond(product_of(m, n), self.inputs(), self.outputs(), p, x, y) {
+        let extent = Extent {
+            size: self.size(),
+            inputs: self.inputs(),
+            outputs: self.outputs(),
+        };
+        if extent.is_outside(p, x, y) {
             return 0;
         }
         let q = p - 1;
+        let n = self.second.size();
         let a = low_step(&self.first, q / n + 1, x, y);
         let b = low_step(&self.second, q % n + 1, x, y);
-        joint_of(m, n, a, b)
+        joint_of(n, a, b)
     }
 }
 
-// The low bits of x.
-fn low(x: u8, bits: u8) -> u8
-    requires { bits ≤ 4 }
-    ensures { result ≡ x % 2 ^ bits }
-{
-    x % count_of(bits)
-}
-
+// The product of two sizes, or 0 where it is above 255.
+#[tactic(auto, unfolding(arena::specs::Pair::product))]
 fn product_of(m: u8, n: u8) -> u8
     ensures { result ≡ product m n }
 {
-    let all = m as u16 * n as u16;
-    if all > 255 { 0 } else { all as u8 }
+    m.checked_mul(n).unwrap_or(0)
 }
 
-fn joint_of(m: u8, n: u8, p: u8, q: u8) -> u8
-    requires { (m * n ≤ 255) × ((p ≤ m) × (q ≤ n)) }
+// The positions p and q as one, where the second game has n.
+#[tactic(auto, unfolding(arena::specs::Pair::joint))]
+fn joint_of(n: u8, p: u8, q: u8) -> u8
+    requires { (p - 1) * n + q ≤ 255 }
     ensures { result ≡ joint n p q }
 {
     if p == 0 || q == 0 {
@@ -81,5 +80,5 @@ fn joint_of(m: u8, n: u8, p: u8, q: u8) -> u8
 fn low_step<G: Game>(g: &G, p: u8, x: u8, y: u8) -> u8
     ensures { result ≡ (G.meaning g.now).move p (x % 2 ^ (G.meaning g.now).inputs) (y % 2 ^ (G.meaning g.now).outputs) }
 {
-    g.step(p, low(x, g.inputs()), low(y, g.outputs()))
+    g.step(p, x % input_count(g), y % output_count(g))
 }

@@ -5,22 +5,32 @@ ghost use Rattle.arena.specs.Arena.{beyond};
 // How many numbers have so many bits.
 pub(crate) fn count_of(bits: u8) -> u8
     requires { bits ≤ 4 }
-    ensures { result ≡ 2 ^ bits }
+    ensures { (result ≡ 2 ^ bits) × (result ≤ 16) }
 {
     1 << bits
 }
 
-// Whether a question to a game of n positions, i inputs and o outputs is out of range.
-pub(crate) fn is_beyond(n: u8, i: u8, o: u8, p: u8, x: u8, y: u8) -> bool
-    requires { (i ≤ 4) × (o ≤ 4) }
-    ensures { result ≡ beyond n i o p x y }
-{
-    p == 0 || n < p || x >= count_of(i) || y >= count_of(o)
+// How many positions a game has, and how many signals each way.
+// Kept: each game's step names the three; a function over any game that named them would lead back to the step, and a
+// call of it there gets no proof.
+#[derive(Clone, Copy)]
+pub struct Extent {
+    pub size: u8,
+    pub inputs: u8,
+    pub outputs: u8,
 }
 
-// The same of any numbers of signals: where there are more than four, every question is out of range.
-pub fn is_outside(n: u8, i: u8, o: u8, p: u8, x: u8, y: u8) -> bool
-    ensures { result ≡ (nat_lt 4 i || (nat_lt 4 o || beyond n i o p x y)) }
-{
-    i > 4 || o > 4 || is_beyond(n, i, o, p, x, y)
+impl Extent {
+    // Whether a question is out of range. Where there are more than four signals, every question is.
+    #[tactic(auto, unfolding(arena::specs::Arena::beyond))]
+    pub fn is_outside(&self, p: u8, x: u8, y: u8) -> bool
+        ensures { result ≡ (nat_lt 4 self.now.inputs || (nat_lt 4 self.now.outputs || beyond self.now.size self.now.inputs self.now.outputs p x y)) }
+    {
+        self.inputs > 4
+            || self.outputs > 4
+            || p == 0
+            || p > self.size
+            || x >= count_of(self.inputs)
+            || y >= count_of(self.outputs)
+    }
 }

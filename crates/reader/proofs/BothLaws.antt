@@ -1,5 +1,5 @@
 -- What two texts come to, from what each comes to.
-use Rattle.std.proofs.Common.{◌≡◌, ℕ, ◌-◌, ◌≤◌, List, [], ◌++◌, length, take, replicate, Ok, Err, Result, sym, ap, ◌∙◌, subst, ap₂, arith}
+use Rattle.std.proofs.Common.{◌≡◌, ℕ, ◌≤◌, List, [], length, Ok, Err, Result, MatchResult, IsErrAnd, sym, ◌∙◌, subst, ap₂, arith}
 use Rattle.terms.specs.declared.refusal.Refusal.{Refusal}
 use Rattle.terms.specs.Refusals as refusals
 use Rattle.words.specs.declared.name.Name.{Name}
@@ -9,17 +9,14 @@ use Rattle.words.specs.Names.{HoldsNames}
 use Rattle.words.specs.Signals as signals
 use Rattle.words.specs.Signals.{Answer, served, refused, Fault, Outcome, Gives, Leaves}
 use Rattle.rules.specs.declared.part.Part.{Part}
-use Rattle.rules.specs.declared.part.Part.TheVariants.{True}
 use Rattle.reader.specs.declared.texts.Text.TheVariants.{Signals, Rule}
+use Rattle.reader.specs.declared.texts.Texts.{Texts}
+use Rattle.reader.specs.declared.texts.Misread.{Misread}
 use Rattle.reader.specs.declared.read.Reading.{Reading}
 use Rattle.reader.specs.Names.{known}
 use Rattle.reader.specs.Faults.{refusal}
 use Rattle.reader.specs.Texts.{RuleText, Served, ReadRule}
 use Rattle.reader.specs.Both.{Roomy, ZeroParts, Both, signals_refused, rule_refused, both_served}
-
--- a store that was cleared is zero
-pub zeros : (parts parts' : List Part) → parts' ≡ take 0 parts ++ replicate (length parts - 0) True → length parts' ≡ length parts → ZeroParts parts'
-zeros parts parts' e l = let n : length parts - 0 ≡ length parts' = omega (arith, l) in e ∙ ap (λ m. replicate m True) n
 
 -- with room for the names, no text is refused for its store
 fault_low : {ws : List Said} {w : Said} {k : ℕ} → Fault ws w k → k ≡ 13 → ⊥
@@ -39,11 +36,24 @@ roomy_low room text k p r (signals.end_wrong f ws b n) e = omega arith
 abbrev pub Came : List Name → List ℕ → Result counts.Signals Refusal → List Name → Type 0
 Came names text r names' = (a : Answer) × Outcome (length names) text a × Gives r a × Leaves names a names'
 
+-- a result that is `Ok` behind a `map_err` was so before
+pub ok_was : (s : Result counts.Signals Refusal) (x : counts.Signals) → MatchResult s (λ y. ◌≡◌ {A = Result counts.Signals Misread} (Ok x) (Ok y)) (λ e. ⊥) → s ≡ Ok x
+ok_was (Ok y) x h = cc
+ok_was (Err e) x h = absurd h
+
 module _ (names : List Name) (parts : List Part) (text rule : List ℕ) (roomy : Roomy names parts) where
-  pub signals_wrong : (e : Refusal) (names' : List Name) (parts' : List Part) → Came names text (Err e) names' → ZeroParts parts' → Both names parts text rule (Err (record { text = Signals; refusal = e })) names' parts'
+  signals_wrong : (e : Refusal) (names' : List Name) (parts' : List Part) → Came names text (Err e) names' → ZeroParts parts' → Both names parts text rule (Err (record { text = Signals; refusal = e })) names' parts'
   signals_wrong e names' parts' (served ins outs, o, g, l) z = absurd g
   signals_wrong e names' parts' (refused k p, o, g, l) z =
       signals_refused roomy (subst (λ n. Outcome (length names) text (refused n (refusals.place e))) (sym g.0) (subst (λ n. Outcome (length names) text (refused k n)) (sym g.1) o)) (l.1 (roomy_low (length names) text k p roomy.0 o)) z
+
+  -- behind a `?` on a signals text that is refused
+  pub signals_exit : (s : Result counts.Signals Refusal) (names' : List Name) (parts' : List Part) → Came names text s names' → ZeroParts parts' → (m : Misread) (P : Refusal → Type 0)
+      → MatchResult s (λ x. ◌≡◌ {A = Result counts.Signals Misread} (Err m) (Ok x)) P → ((e : Refusal) → P e → m ≡ record { text = Signals; refusal = e })
+      → (r : Result Texts Misread) → IsErrAnd r (λ y. y ≡ m) → Both names parts text rule r names' parts'
+  signals_exit (Ok x) names' parts' came z m P h w r q = absurd (let k : ◌≡◌ {A = ℕ} 0 1 = cc in omega arith)
+  signals_exit (Err e) names' parts' came z m P h w (Ok x) q = absurd q
+  signals_exit (Err e) names' parts' came z m P h w (Err y) q = subst (λ n. Both names parts text rule (Err n) names' parts') (sym (q ∙ w e h)) (signals_wrong e names' parts' came z)
 
   module _ (s : counts.Signals) (stored : List Name) (came : Came names text (Ok s) stored) where
     pub rule_wrong : (e : Refusal) (names' : List Name) (parts' : List Part) → ReadRule (known stored s.inputs s.outputs) rule parts' (Err e) → HoldsNames [] names' → Both names parts text rule (Err (record { text = Rule; refusal = e })) names' parts'

@@ -1,5 +1,5 @@
 -- The steps of the reader, over what its calls give.
-use Rattle.std.proofs.Common.{◌≡◌, ℕ, suc, ◌<◌, ◌≤◌, true, false, List, [], ◌∷◌, ◌++◌, map, length, Some, None, Ok, Err, Option, Result, sym, refl, ap, ◌∙◌, subst, subst₂, append_assoc, arith}
+use Rattle.std.proofs.Common.{◌≡◌, ℕ, suc, ◌<◌, ◌≤◌, true, false, List, [], ◌∷◌, ◌++◌, map, length, Some, None, Ok, Err, Option, Result, IsErrAnd, sym, refl, ap, ◌∙◌, subst, subst₂, append_assoc, arith}
 use Rattle.terms.specs.declared.refusal.Refusal.{Refusal}
 use Rattle.terms.specs.declared.refusal.Refusal.TheVariants.{TooDeep}
 use Rattle.terms.specs.Refusals as refusals
@@ -12,11 +12,10 @@ use Rattle.rules.specs.declared.part.Part.TheVariants as part
 use Rattle.rules.specs.Rule.{Rule, never, literal, next, release, both, either}
 use Rattle.rules.specs.Table.{enter, parts_on}
 use Rattle.reader.specs.declared.descent.Source.{Source}
-use Rattle.reader.specs.declared.descent.Point.{Point}
 use Rattle.reader.specs.declared.descent.Found.{Found}
-use Rattle.reader.specs.Grammar.{Names, Sort, rule, choice, join, unit, Derives, rule_choice, rule_release, choice_join, choice_or, join_unit, join_and, unit_name, unit_not, unit_next, unit_always, unit_group}
+use Rattle.reader.specs.Grammar.{Names, Sort, rule, choice, join, unit, Derives, rule_release, choice_or, join_and, unit_name, unit_not, unit_next, unit_always, unit_group}
 use Rattle.reader.specs.Allowed.{State, due, named, done, stops, run}
-use Rattle.reader.specs.Entries.{EntersPart, Enters}
+use Rattle.reader.specs.Entries.{Numbered, one_side, two_sides, EntersPart, Enters}
 use Rattle.reader.specs.Scan as scan
 use Rattle.words.specs.Words.{says as told}
 use Rattle.reader.specs.Scan.{UnlessEnd, Moves, Peek}
@@ -86,8 +85,9 @@ module _ (text : List ℕ) (p : ℕ) (t : Token) where
 
   pub past_one : {s : Said} → Peek text p t → Moves (length text) p t → told t.word ≡ Some s → Passed text p t.next
   past_one {s} k m i =
+      let b : p ≤ t.at = subst (λ o. UnlessEnd o (p ≤ t.at)) i m.behind in
       let l : t.at < t.next = subst (λ o. UnlessEnd o (t.at < t.next)) i m.grows in
-      record { on = omega (arith, m.behind); within = m.within; words = at s t.at ∷ []; are = heard k i }
+      record { on = omega (arith, b); within = m.within; words = at s t.at ∷ []; are = heard k i }
 
   first : (ms : List Said) (s : Said) → Peek text p t → saids text p ≡ s ∷ ms → told t.word ≡ Some s
   first ms s (scan.word u e h) i = e ∙ ap Some (head_one (sym (ap (map said) h) ∙ i))
@@ -128,6 +128,10 @@ stops_later {text = text} a h b = record {
   stop = h ∙ b.stop;
   place_is = b.place_is;
 }
+
+-- a part of a rule that is a larger part too
+pub wider : {text : List ℕ} {D E : Rule → List Said → Type 0} {p : ℕ} {table after : List Part} {r : Found} → ((f : Rule) (ms : List Said) → D f ms → E f ms) → Gives text D p table after r → Gives text E p table after r
+wider {r = r} w g = record { said_rule = g.said_rule; derives = w g.said_rule _ g.derives; passed = g.passed; entered = g.entered }
 
 module _ (known : Names) where
   -- a word that begins no unit is refused where one is due
@@ -212,16 +216,15 @@ module _ (known : Names) where
 
 module _ (src : Source) where
   -- a unit of one word
-  pub leaf_comes : {store after : List Part} {s : Said} (p : Point) (t : Token) (n : ℕ) (r : Found) (f : Rule) (x : Part) → Peek (text_of src) p.at t → Moves (length (text_of src)) p.at t → told t.word ≡ Some s
-      → ((ws : List Said) → Derives (names_of src) unit n (s ∷ ws) f ws) → ((ps : List Part) → parts_on ps f ≡ enter ps x)
-      → r.behind.at ≡ t.next → r.behind.used ≤ 65 → EntersPart store p.used x after r.behind.used r.number → Comes src unit n p store after (Ok r)
-  leaf_comes p t n r f x k m i d is a l e = (
+  pub leaf_comes : (table : List Part) {after : List Part} {s : Said} (p : ℕ) (t : Token) (n : ℕ) (number : Option ℕ) (f : Rule) (x : Part) → Peek (text_of src) p t → Moves (length (text_of src)) p t → told t.word ≡ Some s
+      → ((ws : List Said) → Derives (names_of src) unit n (s ∷ ws) f ws) → parts_on table f ≡ enter table x
+      → Numbered after number (enter table x) → Comes src unit n p table after (Ok (record { number = number; at = t.next }))
+  leaf_comes table p t n number f x k m i d is e = (
     record {
       said_rule = f;
-      derives = subst₂ (λ ws rest. Derives (names_of src) unit n ws f rest) (sym (says (text_of src) p.at t k i)) (ap (saids (text_of src)) (sym a)) (d (saids (text_of src) t.next));
-      passed = subst (Passed (text_of src) p.at) (sym a) (past_one (text_of src) p.at t k m i);
-      most = l;
-      entered = leaf_enters f x is e;
+      derives = subst (λ ws. Derives (names_of src) unit n ws f (saids (text_of src) t.next)) (sym (says (text_of src) p t k i)) (d (saids (text_of src) t.next));
+      passed = past_one (text_of src) p t k m i;
+      entered = leaf_enters table f x is e;
     },
     tt,
   )
@@ -232,232 +235,209 @@ module _ (src : Source) where
   unknown_named : (b : ℕ) (os : List ℕ) (x : List ℕ) (ms : List Said) → names_of src x ≡ None → run (names_of src) (named b os) (name' x ∷ ms) ≡ stops 5 (name' x ∷ ms)
   unknown_named b os x ms e = rw (e, run)
 
-  module _ (p : Point) (t : Token) (k : Peek (text_of src) p.at t) (m : Moves (length (text_of src)) p.at t) where
+  module _ (p : ℕ) (t : Token) (k : Peek (text_of src) p t) (m : Moves (length (text_of src)) p t) where
     -- where the table stops at this very word
-    here : {s : Said} {u : State} {e : Refusal} (j : ℕ) → told t.word ≡ Some s → ((ms : List Said) → run (names_of src) u (s ∷ ms) ≡ stops j (s ∷ ms)) → refusals.number e ≡ j → refusals.place e ≡ t.at → Stops (names_of src) u (text_of src) p.at e
+    here : {s : Said} {u : State} {e : Refusal} (j : ℕ) → told t.word ≡ Some s → ((ms : List Said) → run (names_of src) u (s ∷ ms) ≡ stops j (s ∷ ms)) → refusals.number e ≡ j → refusals.place e ≡ t.at → Stops (names_of src) u (text_of src) p e
     here {u = u} j i h =
-        let y = says (text_of src) p.at t k i in
-        stops_at (text_of src) p.at t k (ap (run (names_of src) u) y ∙ h (saids (text_of src) t.next) ∙ ap (stops j) (sym y))
+        let y = says (text_of src) p t k i in
+        stops_at (text_of src) p t k (ap (run (names_of src) u) y ∙ h (saids (text_of src) t.next) ∙ ap (stops j) (sym y))
 
     -- a name
-    pub name_comes : (store after : List Part) (n : ℕ) (x : List ℕ) → told t.word ≡ Some (name' x) → (r : Result Found Refusal)
-        → LiteralComes src x true t.at (record { at = t.next; used = p.used }) store after r → Comes src unit n p store after r
-    name_comes store after n x i (Ok r) h = (
+    pub name_comes : (table after : List Part) (n : ℕ) (x : List ℕ) → told t.word ≡ Some (name' x) → (r : Result Found Refusal)
+        → LiteralComes src x true t table after r → Comes src unit n p table after r
+    name_comes table after n x i (Ok r) h = (
       record {
         said_rule = literal h.0 true;
-        derives = subst₂ (λ ws rest. Derives (names_of src) unit n ws (literal h.0 true) rest) (sym (says (text_of src) p.at t k i)) (ap (saids (text_of src)) (sym h.2)) (unit_name h.1);
-        passed = subst (Passed (text_of src) p.at) (sym h.2) (past_one (text_of src) p.at t k m i);
-        most = h.3;
-        entered = h.4;
+        derives = subst₂ (λ ws rest. Derives (names_of src) unit n ws (literal h.0 true) rest) (sym (says (text_of src) p t k i)) (ap (saids (text_of src)) (sym h.2)) (unit_name h.1);
+        passed = subst (Passed (text_of src) p) (sym h.2) (past_one (text_of src) p t k m i);
+        entered = h.3;
       },
       tt,
     )
-    name_comes store after n x i (Err e) h = λ b os. here 5 i (λ ms. unknown_due n b os x ms h.0) (ap refusals.number h.1) (ap refusals.place h.1)
+    name_comes table after n x i (Err e) h = λ b os. here 5 i (λ ms. unknown_due n b os x ms h.0) (ap refusals.number h.1) (ap refusals.place h.1)
 
     -- the name behind a `!`
-    pub named_comes : (store after : List Part) (x : List ℕ) → told t.word ≡ Some (name' x) → (r : Result Found Refusal)
-        → LiteralComes src x false t.at (record { at = t.next; used = p.used }) store after r → NotComes src p store after r
-    named_comes store after x i (Ok r) h = λ n. record {
+    pub named_comes : (table after : List Part) (x : List ℕ) → told t.word ≡ Some (name' x) → (r : Result Found Refusal)
+        → LiteralComes src x false t table after r → NotComes src p table after r
+    named_comes table after x i (Ok r) h = λ n. record {
       said_rule = literal h.0 false;
-      derives = subst₂ (λ ws rest. Derives (names_of src) unit n (not' ∷ ws) (literal h.0 false) rest) (sym (says (text_of src) p.at t k i)) (ap (saids (text_of src)) (sym h.2)) (unit_not h.1);
-      passed = subst (Passed (text_of src) p.at) (sym h.2) (past_one (text_of src) p.at t k m i);
-      most = h.3;
-      entered = h.4;
+      derives = subst₂ (λ ws rest. Derives (names_of src) unit n (not' ∷ ws) (literal h.0 false) rest) (sym (says (text_of src) p t k i)) (ap (saids (text_of src)) (sym h.2)) (unit_not h.1);
+      passed = subst (Passed (text_of src) p) (sym h.2) (past_one (text_of src) p t k m i);
+      entered = h.3;
     }
-    named_comes store after x i (Err e) h = λ b os. here 5 i (λ ms. unknown_named b os x ms h.0) (ap refusals.number h.1) (ap refusals.place h.1)
+    named_comes table after x i (Err e) h = λ b os. here 5 i (λ ms. unknown_named b os x ms h.0) (ap refusals.number h.1) (ap refusals.place h.1)
 
-    pub unnamed : {e : Refusal} → Refuses t.word t.at e → ((x : _) → t.word ≡ Name x → ⊥) → (b : ℕ) (os : List ℕ) → Stops (names_of src) (named b os) (text_of src) p.at e
-    unnamed h x b os = stops_at (text_of src) p.at t k (bad_named (names_of src) t.word _ _ b os (heads (text_of src) p.at t k) x) h.number_is h.place_is
+    pub unnamed : {e : Refusal} → Refuses t.word t.at e → ((x : _) → t.word ≡ Name x → ⊥) → (b : ℕ) (os : List ℕ) → Stops (names_of src) (named b os) (text_of src) p e
+    unnamed h x b os = stops_at (text_of src) p t k (bad_named (names_of src) t.word _ _ b os (heads (text_of src) p t k) x) h.number_is h.place_is
 
     -- a `!` and what is behind it
-    pub not_comes : (store after : List Part) (n : ℕ) → told t.word ≡ Some not' → (r : Result Found Refusal) → NotComes src (record { at = t.next; used = p.used }) store after r → Comes src unit n p store after r
-    not_comes store after n i (Ok r) h =
+    pub not_comes : (table after : List Part) (n : ℕ) → told t.word ≡ Some not' → (r : Result Found Refusal) → NotComes src t.next table after r → Comes src unit n p table after r
+    not_comes table after n i (Ok r) h =
         let g = h n in (
           record {
             said_rule = g.said_rule;
-            derives = subst (λ ws. Derives (names_of src) unit n ws g.said_rule (saids (text_of src) r.behind.at)) (sym (says (text_of src) p.at t k i)) g.derives;
-            passed = then (past_one (text_of src) p.at t k m i) g.passed;
-            most = g.most;
+            derives = subst (λ ws. Derives (names_of src) unit n ws g.said_rule (saids (text_of src) r.at)) (sym (says (text_of src) p t k i)) g.derives;
+            passed = then (past_one (text_of src) p t k m i) g.passed;
             entered = g.entered;
           },
           tt,
         )
-    not_comes store after n i (Err e) h = λ b os. stops_later (past_one (text_of src) p.at t k m i) (ap (run (names_of src) (due n b os)) (says (text_of src) p.at t k i)) (h b os)
+    not_comes table after n i (Err e) h = λ b os. stops_later (past_one (text_of src) p t k m i) (ap (run (names_of src) (due n b os)) (says (text_of src) p t k i)) (h b os)
 
     -- a word that begins no unit
     pub no_unit : (n : ℕ) {e : Refusal} → Refuses t.word t.at e → (t.word ≡ True → ⊥) → (t.word ≡ False → ⊥) → ((x : _) → t.word ≡ Name x → ⊥) → (t.word ≡ Not → ⊥) → (t.word ≡ Next → ⊥) → (t.word ≡ Always → ⊥) → (t.word ≡ Open → ⊥)
-        → Wrong (names_of src) unit n (text_of src) p.at e
-    no_unit n h a b' c d e' f g b os = stops_at (text_of src) p.at t k (bad_due (names_of src) t.word _ _ n b os (heads (text_of src) p.at t k) a b' c d e' f g) h.number_is h.place_is
+        → Wrong (names_of src) unit n (text_of src) p e
+    no_unit n h a b' c d e' f g b os = stops_at (text_of src) p t k (bad_due (names_of src) t.word _ _ n b os (heads (text_of src) p t k) a b' c d e' f g) h.number_is h.place_is
 
     -- a word that takes a level, and none is left
-    pub too_deep : {s : Said} {e : Refusal} (n : ℕ) → told t.word ≡ Some s → ((b : ℕ) (os : List ℕ) (ms : List Said) → run (names_of src) (due 0 b os) (s ∷ ms) ≡ stops 8 (s ∷ ms)) → n ≡ 0 → e ≡ TooDeep t.at → Wrong (names_of src) unit n (text_of src) p.at e
+    pub too_deep : {s : Said} {e : Refusal} (n : ℕ) → told t.word ≡ Some s → ((b : ℕ) (os : List ℕ) (ms : List Said) → run (names_of src) (due 0 b os) (s ∷ ms) ≡ stops 8 (s ∷ ms)) → n ≡ 0 → e ≡ TooDeep t.at → Wrong (names_of src) unit n (text_of src) p e
     too_deep {s} n i h z x b os = here 8 i (λ ms. subst (λ j. run (names_of src) (due j b os) (s ∷ ms) ≡ stops 8 (s ∷ ms)) (sym z) (h b os ms)) (ap refusals.number x) (ap refusals.place x)
 
     -- what is inside a word that takes a level is refused
     pub level_wrong : {s : Said} {e : Refusal} (n j : ℕ) (u : ℕ → List ℕ → State) → told t.word ≡ Some s → n ≡ suc j → ((b : ℕ) (os : List ℕ) (ms : List Said) → run (names_of src) (due (suc j) b os) (s ∷ ms) ≡ run (names_of src) (u b os) ms)
-        → ((b : ℕ) (os : List ℕ) → Stops (names_of src) (u b os) (text_of src) t.next e) → Wrong (names_of src) unit n (text_of src) p.at e
+        → ((b : ℕ) (os : List ℕ) → Stops (names_of src) (u b os) (text_of src) t.next e) → Wrong (names_of src) unit n (text_of src) p e
     level_wrong n j u i z h g b os =
-        stops_later (past_one (text_of src) p.at t k m i)
-        (ap (λ d. run (names_of src) (due d b os) (saids (text_of src) p.at)) z ∙ ap (run (names_of src) (due (suc j) b os)) (says (text_of src) p.at t k i) ∙ h b os _)
+        stops_later (past_one (text_of src) p t k m i)
+        (ap (λ d. run (names_of src) (due d b os) (saids (text_of src) p)) z ∙ ap (run (names_of src) (due (suc j) b os)) (says (text_of src) p t k i) ∙ h b os _)
         (g b os)
 
     -- X and a unit
-    pub next_comes : {store s after : List Part} (n j : ℕ) (q r : Found) → told t.word ≡ Some X' → n ≡ suc j
-        → Gives (text_of src) (Derives (names_of src) unit j (saids (text_of src) t.next)) (record { at = t.next; used = p.used }) store s q
-        → r.behind.at ≡ q.behind.at → r.behind.used ≤ 65 → EntersPart s q.behind.used (part.Next q.number) after r.behind.used r.number → Comes src unit n p store after (Ok r)
+    pub next_comes : {table s after : List Part} {number : Option ℕ} (n j : ℕ) (q : Found) → told t.word ≡ Some X' → n ≡ suc j
+        → Gives (text_of src) (Derives (names_of src) unit j (saids (text_of src) t.next)) t.next table s q
+        → EntersPart s (one_side part.Next q.number) after number → Comes src unit n p table after (Ok (record { number = number; at = q.at }))
     unfolding parts_on
-    next_comes n j q r i z g a l e = (
+    next_comes n j q i z g e = (
       record {
         said_rule = next g.said_rule;
-        derives = subst₂ (λ d ws. Derives (names_of src) unit d ws (next g.said_rule) (saids (text_of src) r.behind.at)) (sym z) (sym (says (text_of src) p.at t k i))
-            (unit_next (subst (λ b. Derives (names_of src) unit j (saids (text_of src) t.next) g.said_rule (saids (text_of src) b)) (sym a) g.derives));
-        passed = subst (Passed (text_of src) p.at) (sym a) (then (past_one (text_of src) p.at t k m i) g.passed);
-        most = l;
-        entered = one_enters g.said_rule (next g.said_rule) part.Next (λ ps. refl) g.entered e;
+        derives = subst₂ (λ d ws. Derives (names_of src) unit d ws (next g.said_rule) (saids (text_of src) q.at)) (sym z) (sym (says (text_of src) p t k i)) (unit_next g.derives);
+        passed = then (past_one (text_of src) p t k m i) g.passed;
+        entered = one_enters _ g.said_rule (next g.said_rule) part.Next (λ ps. refl) g.entered e;
       },
       tt,
     )
 
     -- G and a unit
-    pub always_comes : {store s₀ s after : List Part} (n j : ℕ) (f q r : Found) → told t.word ≡ Some G' → n ≡ suc j
-        → f.behind.at ≡ t.next → EntersPart store p.used part.False s₀ f.behind.used f.number
-        → Gives (text_of src) (Derives (names_of src) unit j (saids (text_of src) f.behind.at)) f.behind s₀ s q
-        → r.behind.at ≡ q.behind.at → r.behind.used ≤ 65 → EntersPart s q.behind.used (part.Release f.number q.number) after r.behind.used r.number → Comes src unit n p store after (Ok r)
+    pub always_comes : (table : List Part) {s₀ s after : List Part} {never_number number : Option ℕ} (n j : ℕ) (q : Found) → told t.word ≡ Some G' → n ≡ suc j
+        → Numbered s₀ never_number (enter table part.False)
+        → Gives (text_of src) (Derives (names_of src) unit j (saids (text_of src) t.next)) t.next s₀ s q
+        → EntersPart s (two_sides part.Release never_number q.number) after number → Comes src unit n p table after (Ok (record { number = number; at = q.at }))
     unfolding parts_on
-    always_comes n j f q r i z o e₀ g a l e = (
+    always_comes table n j q i z e₀ g e = (
       record {
         said_rule = release never g.said_rule;
-        derives = subst₂ (λ d ws. Derives (names_of src) unit d ws (release never g.said_rule) (saids (text_of src) r.behind.at)) (sym z) (sym (says (text_of src) p.at t k i))
-            (unit_always (subst₂ (λ b c. Derives (names_of src) unit j (saids (text_of src) c) g.said_rule (saids (text_of src) b)) (sym a) o g.derives));
-        passed = subst (Passed (text_of src) p.at) (sym a) (then (past_one (text_of src) p.at t k m i) (subst (λ b. Passed (text_of src) b q.behind.at) o g.passed));
-        most = l;
-        entered = two_enter never g.said_rule (release never g.said_rule) part.Release (λ ps. refl) (leaf_enters never part.False (λ ps. refl) e₀) g.entered e;
+        derives = subst₂ (λ d ws. Derives (names_of src) unit d ws (release never g.said_rule) (saids (text_of src) q.at)) (sym z) (sym (says (text_of src) p t k i)) (unit_always g.derives);
+        passed = then (past_one (text_of src) p t k m i) g.passed;
+        entered = two_enter table never g.said_rule part.Release (release never g.said_rule) (λ ps. refl) (leaf_enters table never part.False refl e₀) g.entered e;
       },
       tt,
     )
 
     -- a rule in brackets
-    pub group_comes : {store after : List Part} (n j : ℕ) (q : Found) → told t.word ≡ Some open' → n ≡ suc j
-        → Comes src rule j (record { at = t.next; used = p.used }) store after (Ok q) → (r : Result Found Refusal) → CloseComes src q r → Comes src unit n p store after r
-    group_comes {store} {after} n j q i z g (Ok r) h = (
+    pub group_comes : {table after : List Part} (n j : ℕ) (q : Found) → told t.word ≡ Some open' → n ≡ suc j
+        → Comes src rule j t.next table after (Ok q) → (r : Result Found Refusal) → CloseComes src q r → Comes src unit n p table after r
+    group_comes {table} {after} n j q i z g (Ok r) h = (
       record {
         said_rule = g.0.said_rule;
-        derives = subst₂ (λ d ws. Derives (names_of src) unit d ws g.0.said_rule (saids (text_of src) r.behind.at)) (sym z) (sym (says (text_of src) p.at t k i))
+        derives = subst₂ (λ d ws. Derives (names_of src) unit d ws g.0.said_rule (saids (text_of src) r.at)) (sym z) (sym (says (text_of src) p t k i))
             (unit_group (subst (Derives (names_of src) rule j (saids (text_of src) t.next) g.0.said_rule) h.0 g.0.derives));
-        passed = then (past_one (text_of src) p.at t k m i) (then g.0.passed h.1);
-        most = omega (arith, g.0.most, h.2);
-        entered = subst₂ (λ u d. Enters store p.used g.0.said_rule after u d) (sym h.2) (sym h.3) g.0.entered;
+        passed = then (past_one (text_of src) p t k m i) (then g.0.passed h.1);
+        entered = subst (Enters table g.0.said_rule after) (sym h.2) g.0.entered;
       },
       tt,
     )
     group_comes n j q i z g (Err e) h = λ b os.
         let y = passes (names_of src) g.0.derives in
-        stops_later (then (past_one (text_of src) p.at t k m i) g.0.passed)
-        (ap (λ d. run (names_of src) (due d b os) (saids (text_of src) p.at)) z ∙ ap (run (names_of src) (due (suc j) b os)) (says (text_of src) p.at t k i) ∙ y.1 (b ∷ os))
+        stops_later (then (past_one (text_of src) p t k m i) g.0.passed)
+        (ap (λ d. run (names_of src) (due d b os) (saids (text_of src) p)) z ∙ ap (run (names_of src) (due (suc j) b os)) (says (text_of src) p t k i) ∙ y.1 (b ∷ os))
         (h g.1 y.0 b os)
 
-  module _ (f : Found) (t : Token) (k : Peek (text_of src) f.behind.at t) (m : Moves (length (text_of src)) f.behind.at t) where
+  module _ (f : Found) (t : Token) (k : Peek (text_of src) f.at t) (m : Moves (length (text_of src)) f.at t) where
     -- the bracket behind a rule, and any other word
-    pub bracket : (r : Found) → told t.word ≡ Some close' → r.behind.at ≡ t.next → r.behind.used ≡ f.behind.used → r.number ≡ f.number → CloseComes src f (Ok r)
-    bracket r i a u n =
-        (says (text_of src) f.behind.at t k i ∙ ap (λ b. close' ∷ saids (text_of src) b) (sym a), subst (Passed (text_of src) f.behind.at) (sym a) (past_one (text_of src) f.behind.at t k m i), u, n)
+    pub bracket : told t.word ≡ Some close' → CloseComes src f (Ok (record { number = f.number; at = t.next }))
+    bracket i = (says (text_of src) f.at t k i, past_one (text_of src) f.at t k m i, refl)
 
     pub no_bracket : {e : Refusal} → Refuses t.word t.at e → (t.word ≡ Close → ⊥) → CloseComes src f (Err e)
-    no_bracket h c ends j b os = stops_at (text_of src) f.behind.at t k (bad_inside (names_of src) t.word _ _ j b os (heads (text_of src) f.behind.at t k) ends c) h.number_is h.place_is
+    no_bracket h c ends j b os = stops_at (text_of src) f.at t k (bad_inside (names_of src) t.word _ _ j b os (heads (text_of src) f.at t k) ends c) h.number_is h.place_is
 
     -- the whole rule ends, or another word is refused
-    pub ends_here : t.word ≡ End → saids (text_of src) f.behind.at ≡ []
-    ends_here e = subst (λ w. Heads (told w) (saids (text_of src) f.behind.at) (saids (text_of src) t.next)) e (heads (text_of src) f.behind.at t k)
+    pub ends_here : t.word ≡ End → saids (text_of src) f.at ≡ []
+    ends_here e = subst (λ w. Heads (told w) (saids (text_of src) f.at) (saids (text_of src) t.next)) e (heads (text_of src) f.at t k)
 
-    pub no_end : {e : Refusal} → Refuses t.word t.at e → (t.word ≡ End → ⊥) → Ends rule (saids (text_of src) f.behind.at) → (j : ℕ) → Stops (names_of src) (done j []) (text_of src) f.behind.at e
-    no_end h c ends j = stops_at (text_of src) f.behind.at t k (bad_end (names_of src) t.word _ _ j (heads (text_of src) f.behind.at t k) ends c) h.number_is h.place_is
+    pub no_end : {e : Refusal} → Refuses t.word t.at e → (t.word ≡ End → ⊥) → Ends rule (saids (text_of src) f.at) → (j : ℕ) → Stops (names_of src) (done j []) (text_of src) f.at e
+    no_end h c ends j = stops_at (text_of src) f.at t k (bad_end (names_of src) t.word _ _ j (heads (text_of src) f.at t k) ends c) h.number_is h.place_is
 
     -- a join with one unit more
-    pub join_more : {ws : List Said} {p : Point} {store s s₁ after : List Part} (n : ℕ) (q r : Found) → told t.word ≡ Some and' → Gives (text_of src) (Derives (names_of src) join n ws) p store s f
-        → Gives (text_of src) (Derives (names_of src) unit n (saids (text_of src) t.next)) (record { at = t.next; used = f.behind.used }) s s₁ q
-        → r.behind.at ≡ q.behind.at → r.behind.used ≤ 65 → EntersPart s₁ q.behind.used (part.Both f.number q.number) after r.behind.used r.number
-        → Gives (text_of src) (Derives (names_of src) join n ws) p store after r
+    pub join_more : {ws : List Said} {p : ℕ} {table s s₁ after : List Part} {number : Option ℕ} (n : ℕ) (q : Found) → told t.word ≡ Some and' → Gives (text_of src) (Derives (names_of src) join n ws) p table s f
+        → Gives (text_of src) (Derives (names_of src) unit n (saids (text_of src) t.next)) t.next s s₁ q
+        → EntersPart s₁ (two_sides part.Both f.number q.number) after number
+        → Gives (text_of src) (Derives (names_of src) join n ws) p table after (record { number = number; at = q.at })
     unfolding parts_on
-    join_more {ws = ws} {p = p} n q r i g h a l e = record {
+    join_more {ws = ws} n q i g h e = record {
       said_rule = both g.said_rule h.said_rule;
-      derives = subst (λ b. Derives (names_of src) join n ws (both g.said_rule h.said_rule) (saids (text_of src) b)) (sym a)
-          (join_and (subst (Derives (names_of src) join n ws g.said_rule) (says (text_of src) f.behind.at t k i) g.derives) h.derives);
-      passed = subst (Passed (text_of src) p.at) (sym a) (then g.passed (then (past_one (text_of src) f.behind.at t k m i) h.passed));
-      most = l;
-      entered = two_enter g.said_rule h.said_rule (both g.said_rule h.said_rule) part.Both (λ ps. refl) g.entered h.entered e;
+      derives = join_and (subst (Derives (names_of src) join n ws g.said_rule) (says (text_of src) f.at t k i) g.derives) h.derives;
+      passed = then g.passed (then (past_one (text_of src) f.at t k m i) h.passed);
+      entered = two_enter _ g.said_rule h.said_rule part.Both (both g.said_rule h.said_rule) (λ ps. refl) g.entered h.entered e;
     }
 
-    pub join_wrong : {p : Point} {store s : List Part} {e : Refusal} (n : ℕ) → told t.word ≡ Some and' → Gives (text_of src) (Derives (names_of src) join n (saids (text_of src) p.at)) p store s f
-        → Wrong (names_of src) unit n (text_of src) t.next e → Wrong (names_of src) join n (text_of src) p.at e
+    pub join_wrong : {p : ℕ} {table s : List Part} {e : Refusal} (n : ℕ) → told t.word ≡ Some and' → Gives (text_of src) (Derives (names_of src) join n (saids (text_of src) p)) p table s f
+        → Wrong (names_of src) unit n (text_of src) t.next e → Wrong (names_of src) join n (text_of src) p e
     join_wrong n i g h os =
-        stops_later (then g.passed (past_one (text_of src) f.behind.at t k m i))
-        (passes (names_of src) g.derives os ∙ ap (run (names_of src) (done n os)) (says (text_of src) f.behind.at t k i))
+        stops_later (then g.passed (past_one (text_of src) f.at t k m i))
+        (passes (names_of src) g.derives os ∙ ap (run (names_of src) (done n os)) (says (text_of src) f.at t k i))
         (h n os)
 
     -- a choice with one join more
-    pub choice_more : {ws : List Said} {p : Point} {store s s₁ after : List Part} (n : ℕ) (q r : Found) → told t.word ≡ Some or' → Gives (text_of src) (Derives (names_of src) choice n ws) p store s f
-        → Gives (text_of src) (Derives (names_of src) join n (saids (text_of src) t.next)) (record { at = t.next; used = f.behind.used }) s s₁ q
-        → r.behind.at ≡ q.behind.at → r.behind.used ≤ 65 → EntersPart s₁ q.behind.used (part.Either f.number q.number) after r.behind.used r.number
-        → Gives (text_of src) (Derives (names_of src) choice n ws) p store after r
+    pub choice_more : {ws : List Said} {p : ℕ} {table s s₁ after : List Part} {number : Option ℕ} (n : ℕ) (q : Found) → told t.word ≡ Some or' → Gives (text_of src) (Derives (names_of src) choice n ws) p table s f
+        → Gives (text_of src) (Derives (names_of src) join n (saids (text_of src) t.next)) t.next s s₁ q
+        → EntersPart s₁ (two_sides part.Either f.number q.number) after number
+        → Gives (text_of src) (Derives (names_of src) choice n ws) p table after (record { number = number; at = q.at })
     unfolding parts_on
-    choice_more {ws = ws} {p = p} n q r i g h a l e = record {
+    choice_more {ws = ws} n q i g h e = record {
       said_rule = either g.said_rule h.said_rule;
-      derives = subst (λ b. Derives (names_of src) choice n ws (either g.said_rule h.said_rule) (saids (text_of src) b)) (sym a)
-          (choice_or (subst (Derives (names_of src) choice n ws g.said_rule) (says (text_of src) f.behind.at t k i) g.derives) h.derives);
-      passed = subst (Passed (text_of src) p.at) (sym a) (then g.passed (then (past_one (text_of src) f.behind.at t k m i) h.passed));
-      most = l;
-      entered = two_enter g.said_rule h.said_rule (either g.said_rule h.said_rule) part.Either (λ ps. refl) g.entered h.entered e;
+      derives = choice_or (subst (Derives (names_of src) choice n ws g.said_rule) (says (text_of src) f.at t k i) g.derives) h.derives;
+      passed = then g.passed (then (past_one (text_of src) f.at t k m i) h.passed);
+      entered = two_enter _ g.said_rule h.said_rule part.Either (either g.said_rule h.said_rule) (λ ps. refl) g.entered h.entered e;
     }
 
-    pub choice_wrong : {p : Point} {store s : List Part} {e : Refusal} (n : ℕ) → told t.word ≡ Some or' → Gives (text_of src) (Derives (names_of src) choice n (saids (text_of src) p.at)) p store s f
-        → Wrong (names_of src) join n (text_of src) t.next e → Wrong (names_of src) choice n (text_of src) p.at e
+    pub choice_wrong : {p : ℕ} {table s : List Part} {e : Refusal} (n : ℕ) → told t.word ≡ Some or' → Gives (text_of src) (Derives (names_of src) choice n (saids (text_of src) p)) p table s f
+        → Wrong (names_of src) join n (text_of src) t.next e → Wrong (names_of src) choice n (text_of src) p e
     choice_wrong n i g h os =
-        stops_later (then g.passed (past_one (text_of src) f.behind.at t k m i))
-        (passes (names_of src) g.derives os ∙ ap (run (names_of src) (done n os)) (says (text_of src) f.behind.at t k i))
+        stops_later (then g.passed (past_one (text_of src) f.at t k m i))
+        (passes (names_of src) g.derives os ∙ ap (run (names_of src) (done n os)) (says (text_of src) f.at t k i))
         (h os)
 
     -- a choice, `R` and a rule
-    pub release_comes : {p : Point} {store s s₁ after : List Part} (n j : ℕ) (q r : Found) → told t.word ≡ Some R' → n ≡ suc j → Gives (text_of src) (Derives (names_of src) choice n (saids (text_of src) p.at)) p store s f
-        → Comes src rule j (record { at = t.next; used = f.behind.used }) s s₁ (Ok q)
-        → r.behind.at ≡ q.behind.at → r.behind.used ≤ 65 → EntersPart s₁ q.behind.used (part.Release f.number q.number) after r.behind.used r.number
-        → Comes src rule n p store after (Ok r)
+    pub release_comes : {p : ℕ} {table s s₁ after : List Part} {number : Option ℕ} (n j : ℕ) (q : Found) → told t.word ≡ Some R' → n ≡ suc j → Gives (text_of src) (Derives (names_of src) choice n (saids (text_of src) p)) p table s f
+        → Comes src rule j t.next s s₁ (Ok q)
+        → EntersPart s₁ (two_sides part.Release f.number q.number) after number
+        → Comes src rule n p table after (Ok (record { number = number; at = q.at }))
     unfolding parts_on
-    release_comes {p = p} n j q r i z g h a l e = (
+    release_comes {p = p} n j q i z g h e = (
       record {
         said_rule = release g.said_rule h.0.said_rule;
-        derives = subst₂ (λ d b. Derives (names_of src) rule d (saids (text_of src) p.at) (release g.said_rule h.0.said_rule) (saids (text_of src) b)) (sym z) (sym a)
-            (rule_release (subst₂ (λ d ms. Derives (names_of src) choice d (saids (text_of src) p.at) g.said_rule ms) z (says (text_of src) f.behind.at t k i) g.derives) h.0.derives);
-        passed = subst (Passed (text_of src) p.at) (sym a) (then g.passed (then (past_one (text_of src) f.behind.at t k m i) h.0.passed));
-        most = l;
-        entered = two_enter g.said_rule h.0.said_rule (release g.said_rule h.0.said_rule) part.Release (λ ps. refl) g.entered h.0.entered e;
+        derives = subst (λ d. Derives (names_of src) rule d (saids (text_of src) p) (release g.said_rule h.0.said_rule) (saids (text_of src) q.at)) (sym z)
+            (rule_release (subst₂ (λ d ms. Derives (names_of src) choice d (saids (text_of src) p) g.said_rule ms) z (says (text_of src) f.at t k i) g.derives) h.0.derives);
+        passed = then g.passed (then (past_one (text_of src) f.at t k m i) h.0.passed);
+        entered = two_enter _ g.said_rule h.0.said_rule part.Release (release g.said_rule h.0.said_rule) (λ ps. refl) g.entered h.0.entered e;
       },
-      subst (λ b. Ends rule (saids (text_of src) b)) (sym a) h.1,
+      h.1,
     )
 
-    pub release_wrong : {p : Point} {store s : List Part} {e : Refusal} (n j : ℕ) → told t.word ≡ Some R' → n ≡ suc j → Gives (text_of src) (Derives (names_of src) choice n (saids (text_of src) p.at)) p store s f
-        → Wrong (names_of src) rule j (text_of src) t.next e → Wrong (names_of src) rule n (text_of src) p.at e
+    pub release_wrong : {p : ℕ} {table s : List Part} {e : Refusal} (n j : ℕ) → told t.word ≡ Some R' → n ≡ suc j → Gives (text_of src) (Derives (names_of src) choice n (saids (text_of src) p)) p table s f
+        → Wrong (names_of src) rule j (text_of src) t.next e → Wrong (names_of src) rule n (text_of src) p e
     release_wrong n j i z g h os =
-        stops_later (then g.passed (past_one (text_of src) f.behind.at t k m i))
-        (passes (names_of src) g.derives os ∙ ap (λ d. run (names_of src) (done d os) (saids (text_of src) f.behind.at)) z ∙ ap (run (names_of src) (done (suc j) os)) (says (text_of src) f.behind.at t k i))
+        stops_later (then g.passed (past_one (text_of src) f.at t k m i))
+        (passes (names_of src) g.derives os ∙ ap (λ d. run (names_of src) (done d os) (saids (text_of src) f.at)) z ∙ ap (run (names_of src) (done (suc j) os)) (says (text_of src) f.at t k i))
         (h os)
 
-    pub release_deep : {p : Point} {store s : List Part} {e : Refusal} (n : ℕ) → told t.word ≡ Some R' → n ≡ 0 → e ≡ TooDeep t.at → Gives (text_of src) (Derives (names_of src) choice n (saids (text_of src) p.at)) p store s f
-        → Wrong (names_of src) rule n (text_of src) p.at e
+    pub release_deep : {p : ℕ} {table s : List Part} {e : Refusal} (n : ℕ) → told t.word ≡ Some R' → n ≡ 0 → e ≡ TooDeep t.at → Gives (text_of src) (Derives (names_of src) choice n (saids (text_of src) p)) p table s f
+        → Wrong (names_of src) rule n (text_of src) p e
     release_deep n i z x g os =
-        let y = says (text_of src) f.behind.at t k i in
+        let y = says (text_of src) f.at t k i in
         stops_later g.passed (passes (names_of src) g.derives os)
-        (stops_at (text_of src) f.behind.at t k (ap (λ d. run (names_of src) (done d os) (saids (text_of src) f.behind.at)) z ∙ ap (run (names_of src) (done 0 os)) y ∙ ap (stops 8) (sym y)) (ap refusals.number x) (ap refusals.place x))
-
-  -- a part of a rule that is a larger part too
-  pub as_join : {p : Point} {store after : List Part} {r : Found} {ws : List Said} (n : ℕ) → Gives (text_of src) (Derives (names_of src) unit n ws) p store after r → Gives (text_of src) (Derives (names_of src) join n ws) p store after r
-  as_join n g = record { said_rule = g.said_rule; derives = join_unit g.derives; passed = g.passed; most = g.most; entered = g.entered }
-
-  pub as_choice : {p : Point} {store after : List Part} {r : Found} {ws : List Said} (n : ℕ) → Gives (text_of src) (Derives (names_of src) join n ws) p store after r → Gives (text_of src) (Derives (names_of src) choice n ws) p store after r
-  as_choice n g = record { said_rule = g.said_rule; derives = choice_join g.derives; passed = g.passed; most = g.most; entered = g.entered }
-
-  pub as_rule : {p : Point} {store after : List Part} {r : Found} {ws : List Said} (n : ℕ) → Gives (text_of src) (Derives (names_of src) choice n ws) p store after r → Gives (text_of src) (Derives (names_of src) rule n ws) p store after r
-  as_rule n g = record { said_rule = g.said_rule; derives = rule_choice g.derives; passed = g.passed; most = g.most; entered = g.entered }
+        (stops_at (text_of src) f.at t k (ap (λ d. run (names_of src) (done d os) (saids (text_of src) f.at)) z ∙ ap (run (names_of src) (done 0 os)) y ∙ ap (stops 8) (sym y)) (ap refusals.number x) (ap refusals.place x))
 
   -- what a `?` returns
-  pub exits : (sort : Sort) (n : ℕ) (p : Point) (store after : List Part) (r : Result Found Refusal) {x y : Refusal} → r ≡ Err y → y ≡ x → Wrong (names_of src) sort n (text_of src) p.at x → Comes src sort n p store after r
-  exits sort n p store after r {x} h e w = subst (Comes src sort n p store after) (sym (h ∙ ap Err e)) w
+  pub exits : (sort : Sort) (n p : ℕ) (table after : List Part) (r : Result Found Refusal) (x : Refusal) → IsErrAnd r (λ y. y ≡ x) → Wrong (names_of src) sort n (text_of src) p x → Comes src sort n p table after r
+  exits sort n p table after (Ok r) x h w = absurd h
+  exits sort n p table after (Err y) x h w = subst (Wrong (names_of src) sort n (text_of src) p) (sym h) w

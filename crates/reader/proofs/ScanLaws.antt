@@ -1,11 +1,13 @@
 -- The words of a text from a place on, by the byte that stands there.
-use Rattle.std.proofs.Common.{◌≡◌, ℕ, zero, suc, ◌+◌, List, [], ◌∷◌, take, drop, Some, None, Option, refl}
+use Rattle.std.proofs.Common.{◌≡◌, ℕ, zero, suc, ◌+◌, ◌<◌, ◌≤◌, List, [], ◌∷◌, length, take, drop, Some, sym, refl, ap, ◌∙◌, subst, inl, inr, arith}
+use Rattle.std.proofs.lemmas.Bool.{cases_lt}
+use Rattle.std.proofs.lemmas.List.{drop_all}
 use Rattle.std.specs.List.{prefix_len}
 use Rattle.words.specs.declared.word.Word.{Word}
 use Rattle.words.specs.declared.word.Word.TheVariants.{Next, Always, Release, Until, Finally, And, Or, Not, Open, Close, In, Out, True, False, Name, Strange, End}
 use Rattle.words.specs.declared.word.Token.{Token}
-use Rattle.words.specs.Words.{Said, X', G', R', U', F', and', or', not', open', close', in', out', true', false', name', strange', at, blank, letter, other, kind, goes_on, spelled, mark, words_in, Comes}
-use Rattle.reader.specs.Scan.{UnlessEnd, Peek, word, end}
+use Rattle.words.specs.Words.{Said, X', G', R', U', F', and', or', not', open', close', in', out', true', false', name', strange', at, blank, letter, other, kind, goes_on, spelled, mark, words_in, words_from, end_token, Comes}
+use Rattle.reader.specs.Scan.{Peek, word, end}
 
 -- one step of the words, by the kind of the first byte
 module _ (n p b : ℕ) (bs : List ℕ) where
@@ -53,10 +55,17 @@ module _ (bs : List ℕ) (from : ℕ) where
   peeked_so (Strange b) a n h = word (strange' b) refl h
   peeked_so End a n h = end refl h.0 h.1
 
-  pub peeked : (t : Token) → Comes bs from t → Peek bs from t
+  peeked : (t : Token) → Comes bs from t → Peek bs from t
   peeked t h = peeked_so t.word t.at t.next h
 
--- what follows from what a word says holds unless the text ends
-pub grown : (o : Option Said) {P : Type 0} → ((s : Said) → o ≡ Some s → P) → UnlessEnd o P
-grown (Some s) h = h s refl
-grown None h = tt
+-- past the end of a text there is no word
+words_past : (bs : List ℕ) (p : ℕ) → length bs < p → words_from bs p ≡ []
+unfolding words_from
+words_past bs p l = ap (words_in (length bs) p) (drop_all p bs (omega arith)) ∙ in_none (length bs) p
+
+-- the word at any place
+pub word_at : (bs : List ℕ) (from : ℕ) (t : Token) → (from ≤ length bs → Comes bs from t) → (length bs < from → t ≡ end_token (length bs)) → Peek bs from t
+word_at bs from t c e = elim (cases_lt (length bs) from) [
+  | inl l ↦ subst (Peek bs from) (sym (e l)) (end refl (words_past bs from l) refl)
+  | inr l ↦ peeked bs from t (c l)
+]

@@ -1,24 +1,31 @@
--- What a lent store holds while parts are entered.
--- Holds: a store's first entries are a table. HoldsNumbered: and a part has this number there. Enters: a rule's parts went in.
-use Rattle.std.specs.Prelude.{◌≡◌, ℕ, ◌<◌, ◌≤◌, List, length, take}
+-- What entering parts makes of a table.
+-- Numbered: the table, and the number of the part. one_side, two_sides: the part that sides make. Enters: a rule's parts went in.
+use Rattle.std.specs.Prelude.{◌≡◌, ℕ, ◌<◌, List, length, Some, None, Option}
 use Rattle.rules.specs.declared.part.Part.{Part}
 use Rattle.rules.specs.Rule.{Rule}
 use Rattle.rules.specs.Table.{Entry, enter, parts_on}
 
--- the first `used` entries are the table ps; 65 says that ps has more than 64 parts
-pub data Holds (store : List Part) (used : ℕ) (ps : List Part) : Type 0 where
-  all : used ≤ 64 → take used store ≡ ps → Holds store used ps
-  over : used ≡ 65 → 64 < length ps → Holds store used ps
+-- the table is the entry's, and the part has the entry's number; or it has none, and the entry's table has more than 64 parts
+pub data Numbered (after : List Part) (number : Option ℕ) (e : Entry) : Type 0 where
+  all : after ≡ e.table → number ≡ Some e.number → Numbered after number e
+  over : number ≡ None → 64 < length e.table → Numbered after number e
 
--- the same, and the part that was entered last has this number, unless there are too many
-pub data HoldsNumbered (store : List Part) (used number : ℕ) (e : Entry) : Type 0 where
-  all : used ≤ 64 → take used store ≡ e.table → number ≡ e.number → HoldsNumbered store used number e
-  over : used ≡ 65 → 64 < length e.table → HoldsNumbered store used number e
+-- the part that sides make, where each has a number
+abbrev pub one_side : (ℕ → Part) → Option ℕ → Option Part
+one_side x (Some a) = Some (x a)
+one_side x None = None
 
--- whatever the table was, the part is entered into it
-abbrev pub EntersPart : List Part → ℕ → Part → List Part → ℕ → ℕ → Type 0
-EntersPart store used x after used' number = (ps : List Part) → Holds store used ps → HoldsNumbered after used' number (enter ps x)
+abbrev pub two_sides : (ℕ → ℕ → Part) → Option ℕ → Option ℕ → Option Part
+two_sides x (Some a) (Some b) = Some (x a b)
+two_sides x (Some a) None = None
+two_sides x None (Some b) = None
+two_sides x None None = None
 
--- whatever the table was, the parts of the rule are entered into it
-abbrev pub Enters : List Part → ℕ → Rule → List Part → ℕ → ℕ → Type 0
-Enters store used f after used' number = (ps : List Part) → Holds store used ps → HoldsNumbered after used' number (parts_on ps f)
+-- the part is entered, where there is one; else it has no number
+abbrev pub EntersPart : List Part → Option Part → List Part → Option ℕ → Type 0
+EntersPart table (Some x) after number = Numbered after number (enter table x)
+EntersPart table None after number = number ≡ None
+
+-- the parts of the rule are entered
+abbrev pub Enters : List Part → Rule → List Part → Option ℕ → Type 0
+Enters table f after number = Numbered after number (parts_on table f)

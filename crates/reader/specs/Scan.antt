@@ -12,7 +12,7 @@ UnlessEnd None P = Unit {0}
 
 -- the places of a word lie behind one another, and inside the text
 pub record Moves (most from : ℕ) (t : Token) : Type 0 where
-  pub behind : from ≤ t.at
+  pub behind : UnlessEnd (says t.word) (from ≤ t.at)
   pub on : t.at ≤ t.next
   pub within : t.next ≤ most
   pub grows : UnlessEnd (says t.word) (t.at < t.next)

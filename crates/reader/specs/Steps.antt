@@ -6,13 +6,13 @@ use Rattle.terms.specs.declared.refusal.Refusal.{Refusal}
 use Rattle.terms.specs.declared.refusal.Refusal.TheVariants.{UnknownName, TooDeep}
 use Rattle.terms.specs.Refusals as refusals
 use Rattle.words.specs.declared.word.Word.{Word}
+use Rattle.words.specs.declared.word.Token.{Token}
 use Rattle.words.specs.declared.word.Word.TheVariants.{Next, Always, Release, Until, Finally, And, Or, Not, Open, Close, In, Out, True, False, Name, Strange, End}
 use Rattle.words.specs.Words.{Said, Placed, said, place, words_from, and', or', not', close', R'}
 use Rattle.rules.specs.declared.part.Signal.{Signal}
 use Rattle.rules.specs.declared.part.Part.{Part}
 use Rattle.rules.specs.Rule.{Rule, literal}
 use Rattle.reader.specs.declared.descent.Source.{Source}
-use Rattle.reader.specs.declared.descent.Point.{Point}
 use Rattle.reader.specs.declared.descent.Found.{Found}
 use Rattle.reader.specs.Grammar.{Names, Sort, rule, choice, join, unit, Derives}
 use Rattle.reader.specs.Allowed.{State, due, named, done, stops, run}
@@ -24,7 +24,7 @@ abbrev pub text_of : Source → List ℕ
 text_of s = s.text.now
 
 abbrev pub names_of : Source → Names
-names_of s = known s.names.now s.inputs s.outputs
+names_of s = known s.names.now s.signals.inputs s.signals.outputs
 
 -- what the words from a place on say
 abbrev pub saids : List ℕ → ℕ → List Said
@@ -90,13 +90,12 @@ Ends join ws = Past and' ws
 Ends choice ws = Past and' ws × Past or' ws
 Ends rule ws = Past and' ws × Past or' ws × Past R' ws
 
--- the reader came from the point p to behind the rule f, of which D is true, and f's parts are entered
-pub record Gives (text : List ℕ) (D : Rule → List Said → Type 0) (p : Point) (store after : List Part) (r : Found) : Type 0 where
+-- the reader came from the place p to behind the rule f, of which D is true, and f's parts are entered
+pub record Gives (text : List ℕ) (D : Rule → List Said → Type 0) (p : ℕ) (table after : List Part) (r : Found) : Type 0 where
   pub said_rule : Rule
-  pub derives : D said_rule (saids text r.behind.at)
-  pub passed : Passed text p.at r.behind.at
-  pub most : r.behind.used ≤ 65
-  pub entered : Enters store p.used said_rule after r.behind.used r.number
+  pub derives : D said_rule (saids text r.at)
+  pub passed : Passed text p r.at
+  pub entered : Enters table said_rule after r.number
 
 -- the table refuses wherever such a part is due with n levels left
 abbrev pub Wrong : Names → Sort → ℕ → List ℕ → ℕ → Refusal → Type 0
@@ -106,23 +105,21 @@ Wrong known choice n text p e = (os : List ℕ) → Stops known (due n n os) tex
 Wrong known rule n text p e = (os : List ℕ) → Stops known (due n n os) text p e
 
 -- what reading a part of a rule comes to
-abbrev pub Comes : Source → Sort → ℕ → Point → List Part → List Part → Result Found Refusal → Type 0
-Comes s sort n p store after (Ok r) = Gives (text_of s) (Derives (names_of s) sort n (saids (text_of s) p.at)) p store after r × Ends sort (saids (text_of s) r.behind.at)
-Comes s sort n p store after (Err e) = Wrong (names_of s) sort n (text_of s) p.at e
+abbrev pub Comes : Source → Sort → ℕ → ℕ → List Part → List Part → Result Found Refusal → Type 0
+Comes s sort n p table after (Ok r) = Gives (text_of s) (Derives (names_of s) sort n (saids (text_of s) p)) p table after r × Ends sort (saids (text_of s) r.at)
+Comes s sort n p table after (Err e) = Wrong (names_of s) sort n (text_of s) p e
 
 -- what a name comes to: the literal of its signal is entered, or it is unknown
-abbrev pub LiteralComes : Source → List ℕ → Bool → ℕ → Point → List Part → List Part → Result Found Refusal → Type 0
-LiteralComes s run on at p store after (Ok r) =
-    (g : Signal) × (names_of s run ≡ Some g) × (r.behind.at ≡ p.at) × (r.behind.used ≤ 65) × Enters store p.used (literal g on) after r.behind.used r.number
-LiteralComes s run on at p store after (Err e) = (names_of s run ≡ None) × (e ≡ UnknownName at)
+abbrev pub LiteralComes : Source → List ℕ → Bool → Token → List Part → List Part → Result Found Refusal → Type 0
+LiteralComes s run on t table after (Ok r) = (g : Signal) × (names_of s run ≡ Some g) × (r.at ≡ t.next) × Enters table (literal g on) after r.number
+LiteralComes s run on t table after (Err e) = (names_of s run ≡ None) × (e ≡ UnknownName t.at)
 
 -- what the words behind a `!` come to
-abbrev pub NotComes : Source → Point → List Part → List Part → Result Found Refusal → Type 0
-NotComes s p store after (Ok r) = (n : ℕ) → Gives (text_of s) (Derives (names_of s) unit n (not' ∷ saids (text_of s) p.at)) p store after r
-NotComes s p store after (Err e) = (b : ℕ) (os : List ℕ) → Stops (names_of s) (named b os) (text_of s) p.at e
+abbrev pub NotComes : Source → ℕ → List Part → List Part → Result Found Refusal → Type 0
+NotComes s p table after (Ok r) = (n : ℕ) → Gives (text_of s) (Derives (names_of s) unit n (not' ∷ saids (text_of s) p)) p table after r
+NotComes s p table after (Err e) = (b : ℕ) (os : List ℕ) → Stops (names_of s) (named b os) (text_of s) p e
 
 -- what the word behind a rule in brackets comes to
 abbrev pub CloseComes : Source → Found → Result Found Refusal → Type 0
-CloseComes s f (Ok r) =
-    (saids (text_of s) f.behind.at ≡ close' ∷ saids (text_of s) r.behind.at) × Passed (text_of s) f.behind.at r.behind.at × (r.behind.used ≡ f.behind.used) × (r.number ≡ f.number)
-CloseComes s f (Err e) = Ends rule (saids (text_of s) f.behind.at) → (m b : ℕ) (os : List ℕ) → Stops (names_of s) (done m (b ∷ os)) (text_of s) f.behind.at e
+CloseComes s f (Ok r) = (saids (text_of s) f.at ≡ close' ∷ saids (text_of s) r.at) × Passed (text_of s) f.at r.at × (r.number ≡ f.number)
+CloseComes s f (Err e) = Ends rule (saids (text_of s) f.at) → (m b : ℕ) (os : List ℕ) → Stops (names_of s) (done m (b ∷ os)) (text_of s) f.at e

@@ -1,6 +1,6 @@
 -- What the text of a rule comes to.
 -- Small: a rule that fits. RuleText: what a text comes to. Served: what reading leaves. ReadRule: what the call gives.
-use Rattle.std.specs.Prelude.{◌≡◌, ℕ, ◌-◌, ◌<◌, ◌≤◌, List, ◌++◌, map, length, take, replicate, Ok, Err, Result, slice_index_or}
+use Rattle.std.specs.Prelude.{◌≡◌, ℕ, ◌-◌, ◌<◌, ◌≤◌, List, ◌++◌, map, length, replicate, Ok, Err, Option, Result, slice_index_or}
 use Rattle.terms.specs.declared.refusal.Refusal.{Refusal}
 use Rattle.terms.specs.declared.refusal.Refusal.TheVariants.{RuleTooLarge}
 use Rattle.terms.specs.Refusals as refusals
@@ -11,12 +11,11 @@ use Rattle.rules.specs.Rule.{Rule}
 use Rattle.rules.specs.Parts.{duty_number, WellFormed}
 use Rattle.rules.specs.Table.{parts_of}
 use Rattle.reader.specs.declared.descent.Source.{Source}
-use Rattle.reader.specs.declared.descent.Found.{Found}
 use Rattle.reader.specs.declared.read.Reading.{Reading}
 use Rattle.reader.specs.Grammar.{Names, Reads}
 use Rattle.reader.specs.Allowed.{start}
 use Rattle.reader.specs.Faults.{Answer, tree, refusal, Outcome}
-use Rattle.reader.specs.Entries.{HoldsNumbered}
+use Rattle.reader.specs.Entries.{Enters}
 use Rattle.reader.specs.Steps.{text_of, names_of, saids, Stops}
 
 -- how many parts a rule has, and how many of them are duties
@@ -55,16 +54,11 @@ ReadRule known text store (Ok r) = Served known text store r
 ReadRule known text store (Err e) = RuleText known text (refusal (refusals.number e) (refusals.place e)) × (store ≡ replicate (length store) True)
 
 -- what the whole text comes to, before the rule's size is judged
-abbrev pub WholeComes : Source → List Part → Result Found Refusal → Type 0
-WholeComes s store (Ok r) = (f : Rule) × Reads (names_of s) 32 (saids (text_of s) 0) f × (r.behind.used ≤ 65) × HoldsNumbered store r.behind.used r.number (parts_of f)
-WholeComes s store (Err e) = Stops (names_of s) (start 32) (text_of s) 0 e
+abbrev pub WholeComes : Source → List Part → List Part → Result (Option ℕ) Refusal → Type 0
+WholeComes s table after (Ok number) = (f : Rule) × Reads (names_of s) 32 (saids (text_of s) 0) f × Enters table f after number
+WholeComes s table after (Err e) = Stops (names_of s) (start 32) (text_of s) 0 e
 
--- a rule whose table a store holds fits, or is too large
+-- a rule whose parts were entered fits, or is too large
 abbrev pub Sized : List Part → Rule → Result Reading Refusal → Type 0
-Sized store f (Ok r) = Small f × (r.parts ≡ parts_in f) × (r.duties ≡ duties_in f) × (r.root ≡ (parts_of f).number) × (take (parts_in f) store ≡ (parts_of f).table)
-Sized store f (Err e) = (Small f → ⊥) × (e ≡ RuleTooLarge)
-
--- what a text comes to with its parts in a store
-abbrev pub TextComes : Source → List Part → Result Reading Refusal → Type 0
-TextComes s store (Ok r) = (f : Rule) × RuleText (names_of s) (text_of s) (tree f) × Sized store f (Ok r)
-TextComes s store (Err e) = RuleText (names_of s) (text_of s) (refusal (refusals.number e) (refusals.place e))
+Sized table f (Ok r) = Small f × (r.parts ≡ parts_in f) × (r.duties ≡ duties_in f) × (r.root ≡ (parts_of f).number) × (table ≡ (parts_of f).table)
+Sized table f (Err e) = (Small f → ⊥) × (e ≡ RuleTooLarge)

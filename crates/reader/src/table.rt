@@ -1,52 +1,91 @@
-// The table of a rule's parts, in a lent store: equal parts are one part.
-ghost use Rattle.std.specs.Prelude.{◌≡◌, ℕ, ◌+◌, ◌<◌, ◌≤◌, length};
-ghost use Rattle.register.specs.Places.{number, kept};
-ghost use Rattle.rules.specs.Table.{same_part};
-ghost use Rattle.reader.specs.Entries.{EntersPart};
+// The table of a rule's parts: equal parts are one part.
+ghost use Rattle.std.specs.Prelude.{◌≡◌, ℕ, ◌≤◌, [], length};
+ghost use Rattle.rules.specs.Table.{enter};
+ghost use Rattle.rules.specs.declared.part.Part.{Part};
+ghost use Rattle.reader.specs.Entries.{Numbered, one_side, two_sides, EntersPart};
 
 use register::Register;
 use rules::part::Part;
+use std::marker::Model;
 
 // A rule has at most so many parts.
-pub const MOST_PARTS: u8 = 64;
+pub const MOST_PARTS: usize = 64;
 
-// The number of a part in a table, and how many parts the table has. 65 stands for every larger number.
-#[derive(Clone, Copy)]
-pub struct Entered {
-    pub number: u8,
-    pub used: u8,
+// Room for the parts of a rule, of which the first `used` are in the table.
+// Kept: an array and its length, since there is no heap; outside, it is a slice.
+#[derive(Drop)]
+pub struct Table {
+    parts: [Part; MOST_PARTS],
+    used: usize,
 }
 
-// The number of `part` among the `used` ones, which it then has; none where the store is full.
-fn registered(parts: &mut [Part], used: usize, part: Part) -> Option<usize>
-    ensures value { result ≡ number same_part part used parts.old }
-    ensures store { parts.new ≡ kept same_part part used parts.old }
-{
-    let mut register = Register { store: parts, used };
-    register.enter(part)
+// Clauses see the parts that are in the table.
+impl Model for Table {
+    ghost use Rattle.std.specs.Prelude.{List, ◌≤◌, take};
+    ghost use Rattle.rules.specs.declared.part.Part.{Part};
+
+    ghost Value = { List Part };
+
+    ghost view = { λ t. take t.used t.parts };
+
+    ghost invariant = { λ t. t.used ≤ 64 };
 }
 
-// The number of `part`: the earlier one where it is in the table, else the next, which it then has.
-pub(crate) fn enter_part(parts: &mut [Part], used: u8, part: Part) -> Entered
-    requires { (64 ≤ length parts.old) × (used ≤ 65) }
-    ensures most { result.used ≤ 65 }
-    ensures entered { EntersPart parts.old used part parts.new result.used result.number }
-{
-    if used > MOST_PARTS {
-        return Entered { number: 0, used };
+impl Table {
+    // A table with no parts.
+    pub(crate) fn new() -> Table
+        ensures { result ≡ [] }
+    {
+        Table {
+            parts: [Part::True; MOST_PARTS],
+            used: 0,
+        }
     }
-    match registered(parts, used as usize, part) {
-        Some(k) if k < used as usize => Entered {
-            number: k as u8,
-            used,
-        },
-        Some(_) => Entered {
-            number: used,
-            used: used + 1,
-        },
-        None => Entered {
-            number: used,
-            used: used + 1,
-        },
+
+    // The parts, in the order of their numbers.
+    pub(crate) fn parts(&self) -> &[Part]
+        ensures value { result.now ≡ self.now }
+        ensures few { length self.now ≤ 64 }
+    {
+        &self.parts[..self.used]
+    }
+
+    // The number of `part`: the earlier one where it is in the table, else the next, which it then has. There is none
+    // where the table is full.
+    pub(crate) fn enter(&mut self, part: Part) -> Option<u8>
+        ensures { Numbered self.new result (enter self.old part) }
+    {
+        let mut register = Register {
+            store: &mut self.parts,
+            used: self.used,
+        };
+        let number = register.enter(part)?;
+        self.used = register.used;
+        Some(number as u8)
+    }
+
+    // The number of the part that one side makes. There is none where the side has none.
+    pub(crate) fn enter_one<F: FnOnce(u8) -> Part + Drop>(
+        &mut self,
+        side: Option<u8>,
+        part: F,
+    ) -> Option<u8>
+        requires { F.IsAlwaysCallable part }
+        ensures { (x : ℕ → Part) → ((a : ℕ) (p : Part) → F.post part a p → p ≡ x a) → EntersPart self.old (one_side x side) self.new result }
+    {
+        self.enter(part(side?))
+    }
+
+    // The number of the part that two sides make. There is none where a side has none.
+    pub(crate) fn enter_two<F: FnOnce(u8, u8) -> Part + Drop>(
+        &mut self,
+        left: Option<u8>,
+        right: Option<u8>,
+        part: F,
+    ) -> Option<u8>
+        requires { F.IsAlwaysCallable part }
+        ensures { (x : ℕ → ℕ → Part) → ((a b : ℕ) (p : Part) → F.post part a b p → p ≡ x a b) → EntersPart self.old (two_sides x left right) self.new result }
+    {
+        self.enter(part(left?, right?))
     }
 }

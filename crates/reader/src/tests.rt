@@ -3,6 +3,7 @@ use crate::read::{Reading, read_rule};
 use rules::part::Part;
 use terms::refusal::Refusal;
 use words::name::Name;
+use words::signals::Signals;
 
 // A text, and the number and place of its refusal; 0 and how many parts it has, where it is served.
 struct Case {
@@ -202,10 +203,7 @@ fn told(res: Result<Reading, Refusal>) -> (u8, usize) {
 }
 
 fn is_zero(part: Part) -> bool {
-    match part {
-        Part::True => true,
-        _ => false,
-    }
+    matches!(part, Part::True)
 }
 
 // The number and place of what a text comes to.
@@ -219,7 +217,11 @@ fn outcome(text: &[u8]) -> (u8, usize) {
         },
     ];
     let mut parts = [Part::False; 64];
-    told(read_rule(text, &names, 1, 1, &mut parts))
+    let signals = Signals {
+        inputs: 1,
+        outputs: 1,
+    };
+    told(read_rule(text, &names, signals, &mut parts))
 }
 
 #[test]
@@ -239,10 +241,14 @@ fn limits(rt: HostRuntime) {
     let blanks = [b' '; 1025];
     assert_eq!(rt; outcome(&blanks), (1, 0));
     assert_eq!(rt; outcome(&blanks[..1024]), (3, 1024));
+    let none = Signals {
+        inputs: 0,
+        outputs: 0,
+    };
     let mut few = [Part::False; 63];
-    assert_eq!(rt; told(read_rule(b"true", &[], 0, 0, &mut few)), (13, 0));
+    assert_eq!(rt; told(read_rule(b"true", &[], none, &mut few)), (13, 0));
     assert!(rt; !is_zero(few[0]));
     let mut parts = [Part::False; 64];
-    assert_eq!(rt; told(read_rule(b"true &", &[], 0, 0, &mut parts)), (3, 6));
+    assert_eq!(rt; told(read_rule(b"true &", &[], none, &mut parts)), (3, 6));
     assert!(rt; is_zero(parts[63]));
 }

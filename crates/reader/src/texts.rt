@@ -1,12 +1,15 @@
 // Reading a signals text and the text of a rule together.
 ghost use Rattle.reader.specs.Both.{Both};
 
-use crate::read::{Reading, clear, read_rule};
+use crate::read::{Reading, clear_parts, read_rule};
 use crate::table::MOST_PARTS;
 use rules::part::Part;
 use terms::refusal::Refusal;
 use words::name::Name;
 use words::signals::{Signals, clear as clear_names, read_signals};
+
+// There are at most so many signals.
+const MOST_SIGNALS: usize = 8;
 
 // Which text a refusal is about; a store that is too short is refused before either is read.
 #[derive(Clone, Copy, PartialEq, Eq, Debug)]
@@ -40,28 +43,25 @@ pub fn read(
 ) -> Result<Texts, Misread>
     ensures { Both names.old parts.old named.now ruled.now result names.new parts.new }
 {
-    if names.len() < 8 || parts.len() < MOST_PARTS as usize {
-        let refusal = Refusal::StoreTooShort;
+    if names.len() < MOST_SIGNALS || parts.len() < MOST_PARTS {
         return Err(Misread {
             text: Text::Neither,
-            refusal,
+            refusal: Refusal::StoreTooShort,
         });
     }
-    clear(parts, 0);
-    match read_signals(named, names) {
-        Err(refusal) => Err(Misread {
-            text: Text::Signals,
-            refusal,
-        }),
-        Ok(signals) => match read_rule(ruled, names, signals.inputs, signals.outputs, parts) {
-            Ok(rule) => Ok(Texts { signals, rule }),
-            Err(refusal) => {
-                clear_names(names);
-                Err(Misread {
-                    text: Text::Rule,
-                    refusal,
-                })
-            }
-        },
+    clear_parts(parts);
+    let signals = read_signals(named, names).map_err(|refusal| Misread {
+        text: Text::Signals,
+        refusal,
+    })?;
+    match read_rule(ruled, names, signals, parts) {
+        Ok(rule) => Ok(Texts { signals, rule }),
+        Err(refusal) => {
+            clear_names(names);
+            Err(Misread {
+                text: Text::Rule,
+                refusal,
+            })
+        }
     }
 }

@@ -41,6 +41,7 @@ fn find_or_add<E: Same + Copy>(store: &mut [E], used: usize, e: E) -> Option<usi
 }
 
 // A store whose first `used` entries are in use.
+// Kept: the store is the caller's, lent for a time, and there is no heap.
 #[derive(Drop)]
 pub struct Register<'s, E> {
     pub store: &'s mut [E],

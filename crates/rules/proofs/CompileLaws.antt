@@ -1,7 +1,9 @@
 -- What exploring finds is closed under moves.
-use Rattle.std.proofs.Common.{◌≡◌, ℕ, zero, suc, ◌+◌, ◌^◌, ◌<◌, ◌≤◌, Bool, true, false, cond, ◌&&◌, eqb, ltb, leb, ◌↔◌, List, [], ◌∷◌, ◌++◌, map, length, get_or, drop, fold, sym, refl, ap, ◌∙◌, subst, inl, inr, ⊎_elim, append_assoc, append-nil, arith, length-append, length-drop, drop-cons}
+use Rattle.std.proofs.Common.{◌≡◌, ℕ, zero, suc, ◌+◌, ◌^◌, ◌<◌, ◌≤◌, Bool, true, false, cond, ◌&&◌, ltb, leb, ◌↔◌, List, [], ◌∷◌, ◌++◌, map, length, get_or, drop, fold, sym, refl, ap, ◌∙◌, subst, inl, inr, ⊎_elim, append_assoc, append-nil, arith, length-append, length-drop, drop-cons}
 use lib.ListN.{get_or-append}
-use Rattle.std.proofs.lemmas.Bool.{cond_both, leb-true, ltb-true, eqb-true, eq-eqb, or_left, or_right, or_cases, and_parts, and_from, cases_eq, both_ways}
+use Rattle.std.proofs.lemmas.Bool.{cond_both, leb-true, ltb-true, or_left, or_right, or_cases, and_parts, cases_eq}
+use Rattle.std.specs.Bool.{Decides}
+use Rattle.std.proofs.lemmas.Slice.Eq.{compares_Decides}
 use Rattle.arena.specs.Tally.{Played}
 use Rattle.rules.specs.declared.part.Part.{Part}
 use Rattle.rules.specs.Rule.{Rule, Fails}
@@ -45,29 +47,24 @@ round_in P i o r h l =
     number_in (λ y. P (record { input = r.input; output = y })) (2 ^ o) 0 r.output row (omega arith) (omega (arith, l.1))
 
 -- lists among others
+same_list_decides : (xs ys : List ℕ) → Decides (same_list xs ys) (xs ≡ ys)
+same_list_decides = compares_Decides same_list (record { empty = refl; shorter = λ y s. refl; longer = λ x s. refl; heads = λ x y s t. refl })
+
 pub same_list_true : (xs ys : List ℕ) → same_list xs ys ≡ true → xs ≡ ys
-same_list_true [] [] e = refl
-same_list_true [] (y ∷ ys) e = absurd (both_ways false refl e)
-same_list_true (x ∷ xs) [] e = absurd (both_ways false refl e)
-same_list_true (x ∷ xs) (y ∷ ys) e =
-    let p = and_parts (eqb x y) (same_list xs ys) e in
-    let a : x ≡ y = eqb-true x y p.0 in
-    let b : xs ≡ ys = same_list_true xs ys p.1 in
-    cc
+same_list_true xs ys = (same_list_decides xs ys).0
 
 pub same_list_self : (xs : List ℕ) → same_list xs xs ≡ true
-same_list_self [] = refl
-same_list_self (x ∷ xs) = and_from (eqb x x) (same_list xs xs) (eq-eqb x x refl) (same_list_self xs)
+same_list_self xs = (same_list_decides xs xs).1 refl
 
 pub among_at : (known : List (List ℕ)) (s : List ℕ) → among known s ≡ true → (q : ℕ) × (q < length known) × (get_or known q [] ≡ s)
-among_at [] s e = absurd (both_ways false refl e)
+among_at [] s e = cc
 among_at (t ∷ ts) s e = elim (or_cases (same_list t s) (among ts s) e) [
   | inl h ↦ (0, omega arith, same_list_true t s h)
   | inr h ↦ (let r = among_at ts s h in (suc r.0, omega (arith, r.1), r.2))
 ]
 
 pub among_front : (known rest : List (List ℕ)) (s : List ℕ) → among known s ≡ true → among (known ++ rest) s ≡ true
-among_front [] rest s e = absurd (both_ways false refl e)
+among_front [] rest s e = cc
 among_front (t ∷ ts) rest s e = elim (or_cases (same_list t s) (among ts s) e) [
   | inl h ↦ or_left (same_list t s) (among (ts ++ rest) s) h
   | inr h ↦ or_right (same_list t s) (among (ts ++ rest) s) (among_front ts rest s h)
@@ -123,18 +120,12 @@ met_ok p known (sets (x ∷ xs)) l =
 module _ (ps : List Part) where
   move_ok : (p : ℕ) (s : List ℕ) (e : Compiled) (r : Played) → length (lists e) ≤ 255 → Is (move ps p s e r)
       → Grows (lists e) (lists (move ps p s e r)) × (length (lists (move ps p s e r)) ≤ 255) × Ok (lists (move ps p s e r)) (list_after ps r (sets s))
-  move_ok p s too_large r l h = absurd h
-  move_ok p s lost_start r l h = absurd h
-  move_ok p s (wide_at q) r l h = absurd h
-  move_ok p s too_many r l h = absurd h
   move_ok p s (positions known) r l h = met_ok p known (list_after ps r (sets s)) l h
+  move_ok p s e r l h = absurd h
 
   move_is : (p : ℕ) (s : List ℕ) (e : Compiled) (r : Played) → Is (move ps p s e r) → Is e
-  move_is p s too_large r h = h
-  move_is p s lost_start r h = h
-  move_is p s (wide_at q) r h = h
-  move_is p s too_many r h = h
   move_is p s (positions known) r h = tt
+  move_is p s e r h = h
 
   moves_is : (p : ℕ) (s : List ℕ) (rs : List Played) (e : Compiled) → Is (fold (move ps p s) e rs) → Is e
   moves_is p s [] e h = h
@@ -169,11 +160,8 @@ module _ (ps : List Part) where
     explore_is : (n p : ℕ) (e : Compiled) → Is (explore n ps rs p e) → Is e
     unfolding explore
     explore_is zero p e h = h
-    explore_is (suc n) p too_large h = h
-    explore_is (suc n) p lost_start h = h
-    explore_is (suc n) p (wide_at q) h = h
-    explore_is (suc n) p too_many h = h
     explore_is (suc n) p (positions known) h = tt
+    explore_is (suc n) p e h = h
 
     turn_ok : (n p : ℕ) (known : List (List ℕ)) → length known ≤ 255 → Done p known
         → ((e : Compiled) → length (lists e) ≤ 255 → Done (suc p) (lists e) → Is (explore n ps rs (suc p) e) → Explored (lists e) (lists (explore n ps rs (suc p) e)))
@@ -201,12 +189,9 @@ module _ (ps : List Part) where
     explore_ok : (n p : ℕ) (e : Compiled) → n + p ≡ 256 → length (lists e) ≤ 255 → Done p (lists e) → Is (explore n ps rs p e) → Explored (lists e) (lists (explore n ps rs p e))
     unfolding explore
     explore_ok zero p e m l done h = (grows_self (lists e), λ q a. done q (omega arith) a, l)
-    explore_ok (suc n) p too_large m l done h = absurd h
-    explore_ok (suc n) p lost_start m l done h = absurd h
-    explore_ok (suc n) p (wide_at q) m l done h = absurd h
-    explore_ok (suc n) p too_many m l done h = absurd h
     explore_ok (suc n) p (positions known) m l done h =
         turn_ok n p known l done (λ e a b c. explore_ok n (suc p) e (omega arith) a b c) (drop p known) refl h
+    explore_ok (suc n) p e m l done h = absurd h
 
   lost_stays : (rs : List Played) → list_after_all ps rs (sets []) ≡ sets []
   unfolding list_after_all list_after

@@ -4,7 +4,7 @@ use lib.Bits.{bit_or, or_zero_l}
 use Rattle.std.proofs.lemmas.Bool.{cond_both, cond-true, leb-true, le-leb}
 use Rattle.arena.specs.Tally.{Played}
 use Rattle.rules.specs.declared.part.Part.{Part}
-use Rattle.rules.specs.declared.part.Part.TheVariants.{True, False, Literal, Next, Release, Both, Either}
+use Rattle.rules.specs.declared.part.Part.TheVariants.{True, False, Both, Either}
 use Rattle.rules.specs.Sets.{trim, unions, Sets, too_wide, sets, fit, join_or, join_and, Trimmed, Trims, Fits}
 use Rattle.rules.specs.Parts.{part, duty_number}
 use Rattle.rules.specs.Progress.{of_true, of_false, list_from, list_in, list_of, set_after, list_after}
@@ -37,11 +37,9 @@ none_fits = (record { ascends = λ i j l m. absurd (omega arith); apart = λ i j
 from_fits : (f : ℕ → Sets) (d : ℕ) (x : Part) → Fits (list_from f d x)
 from_fits f d True = one_fits 0
 from_fits f d False = none_fits
-from_fits f d (Literal s want) = one_fits (2 ^ d)
-from_fits f d (Next a) = one_fits (2 ^ d)
-from_fits f d (Release a b) = one_fits (2 ^ d)
 from_fits f d (Both a b) = and_fits (f a) (f b)
 from_fits f d (Either a b) = or_fits (f a) (f b)
+from_fits f d x = one_fits (2 ^ d)
 
 pub of_part : (ps : List Part) (k : ℕ) → Fits (list_of ps k)
 unfolding list_in

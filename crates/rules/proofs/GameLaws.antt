@@ -1,7 +1,7 @@
 -- A compiled rule is a game, and is lost where the rule fails.
 use Rattle.std.proofs.Common.{◌≡◌, ℕ, zero, suc, ◌+◌, ◌^◌, ◌<◌, ◌≤◌, min, true, false, ◌&&◌, ◌||◌, ltb, ◌↔◌, List, [], ◌∷◌, length, get_or, sym, refl, ap, ◌∙◌, subst, inl, inr, arith}
 use lib.ListN.{get_or-eq_default}
-use Rattle.std.proofs.lemmas.Bool.{cond_both, cond-true, cond-false, lt-ltb, le-ltb, and_from, and_left, and_right, cases_Bool, both_ways}
+use Rattle.std.proofs.lemmas.Bool.{cond_both, cond-true, cond-false, lt-ltb, le-ltb, and_from, and_left, and_right, cases_Bool}
 use Rattle.arena.specs.Tally.{Played, leads}
 use Rattle.rules.specs.declared.part.Part.{Part}
 use Rattle.rules.specs.Rule.{Rule, Fails}
@@ -28,7 +28,7 @@ position_most known (sets (x ∷ xs)) = omega (arith, number_most 0 known (x ∷
 -- the number of a known list, and what stands there
 number_at : (k : ℕ) (known : List (List ℕ)) (s : List ℕ) → among known s ≡ true → (q : ℕ) × (number_from (suc k) known s ≡ suc (k + q)) × (get_or known q [] ≡ s)
 unfolding number_from
-number_at k [] s e = absurd (both_ways false refl e)
+number_at k [] s e = cc
 number_at k (t ∷ ts) s e = elim (cases_Bool (same_list t s)) [
   | inl h ↦ (0, cond-true (same_list t s) (suc k) (number_from (suc (suc k)) ts s) h ∙ omega arith, same_list_true t s h)
   | inr h ↦ (
@@ -42,7 +42,7 @@ unfolding position
 position_lost known [] h = (λ e. refl, λ e. refl)
 position_lost known (x ∷ xs) h = (
   λ e. absurd (omega (arith, (number_at 0 known (x ∷ xs) h).1)),
-  λ e. let z : ◌≡◌ {A = ℕ} 0 1 = cc in absurd (omega arith),
+  λ e. cc,
 )
 
 move_most : (i o : ℕ) (ps : List Part) (known : List (List ℕ)) (p x y : ℕ) → rule_move i o ps known p x y ≤ length known

@@ -1,3 +1,4 @@
+pub mod EqualLaws
 pub mod FailLaws
 pub mod BitLaws
 pub mod SetLaws

@@ -76,13 +76,11 @@ again_two ps f g a b x p q =
 
 again_step : (ps : List Part) (r : ℕ → Rule) (k : ℕ) (x : Part) → Falls k x → ((a : ℕ) → a < k → parts_on ps (r a) ≡ entry ps a) → parts_on ps (rule_from r x) ≡ enter ps x
 unfolding parts_on
-again_step ps r k True l h = refl
-again_step ps r k False l h = refl
-again_step ps r k (Literal s want) l h = refl
 again_step ps r k (Next a) l h = ap (λ e. enter e.table (Next e.number)) (h a l)
 again_step ps r k (Release a b) l h = again_two ps (r a) (r b) a b Release (h a l.0) (h b l.1)
 again_step ps r k (Both a b) l h = again_two ps (r a) (r b) a b Both (h a l.0) (h b l.1)
 again_step ps r k (Either a b) l h = again_two ps (r a) (r b) a b Either (h a l.0) (h b l.1)
+again_step ps r k x l h = refl
 
 enter_old : (ps : List Part) (k : ℕ) → Single ps → k < length ps → enter ps (part ps k) ≡ entry ps k
 unfolding enter

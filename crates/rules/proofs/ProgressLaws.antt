@@ -1,5 +1,5 @@
 -- A list after rounds is empty exactly when its rule fails.
-use Rattle.std.specs.Prelude.{◌≡◌, ℕ, zero, suc, ◌+◌, ◌<◌, Bool, true, false, ◌⊎◌, ◌↔◌, List, [], ◌∷◌, length, drop, fold}
+use Rattle.std.specs.Prelude.{◌≡◌, ℕ, zero, suc, ◌+◌, ◌<◌, true, false, ◌⊎◌, ◌↔◌, List, [], ◌∷◌, length, drop, fold}
 use Rattle.std.proofs.Math.Path.{refl, subst}
 use Rattle.std.proofs.Common.{sym, ap, ◌∙◌, inl, ⊎_elim}
 use Rattle.std.proofs.Math.Logic.{inr}
@@ -33,25 +33,16 @@ release_from a b rs p s h = elim h [
   | inr q ↦ (q.1.0, omega arith, q.1.2, q.1.3, λ i l m. ⊎_elim (λ e. subst (λ j. Fails a rs j) (sym e) q.0) (λ no. q.1.4 i (omega arith) m) (cases_eq i p))
 ]
 
-abbrev is_false : Part → Bool
-is_false True = false
-is_false False = true
-is_false (Literal s want) = true
-is_false (Next a) = true
-is_false (Release a b) = true
-is_false (Both a b) = true
-is_false (Either a b) = true
-
 -- no duty fails behind the last round
 none_behind : (h : ℕ → Rule) (x : Part) (rs : List Played) → (is_duty x ≡ true) ⊎ (x ≡ True) → Fails (rule_from h x) rs (length rs) → ⊥
 unfolding Fails
 none_behind h True rs d f = f
-none_behind h False rs d f = elim d [ inl e ↦ both_ways false refl e | inr e ↦ both_ways false refl (sym (ap is_false e)) ]
+none_behind h False rs d f = elim d [ inl e ↦ cc | inr e ↦ cc ]
 none_behind h (Literal s want) rs d f = omega arith
 none_behind h (Next a) rs d f = omega arith
 none_behind h (Release a b) rs d f = omega arith
-none_behind h (Both a b) rs d f = elim d [ inl e ↦ both_ways false refl e | inr e ↦ both_ways false refl (sym (ap is_false e)) ]
-none_behind h (Either a b) rs d f = elim d [ inl e ↦ both_ways false refl e | inr e ↦ both_ways false refl (sym (ap is_false e)) ]
+none_behind h (Both a b) rs d f = elim d [ inl e ↦ cc | inr e ↦ cc ]
+none_behind h (Either a b) rs d f = elim d [ inl e ↦ cc | inr e ↦ cc ]
 
 module _ (ps : List Part) (wf : WellFormed ps) (rs : List Played) where
   -- duty d fails at place p
@@ -166,7 +157,7 @@ module _ (ps : List Part) (wf : WellFormed ps) (rs : List Played) where
   end_says [] = (λ h. refl, λ h. tt)
   end_says (x ∷ xs) = (
     λ h. absurd (none_behind _ (part ps (duty_part ps h.0.0)) rs (duty_or_none ps h.0.0) h.0.3),
-    λ e. let z : ◌≡◌ {A = ℕ} 0 1 = cc in absurd (omega arith),
+    λ e. cc,
   )
 
   lost_when : (k : ℕ) (xs : List ℕ) → list_after_all ps rs (list_of ps k) ≡ sets xs → (xs ≡ []) ↔ Fails (rule_of ps k) rs 0

@@ -10,7 +10,7 @@ use Rattle.rules.specs.Sets.{Sets, too_wide, sets}
 use Rattle.rules.specs.Parts.{duty_number}
 use Rattle.rules.specs.Table.{parts_of}
 use Rattle.rules.specs.Progress.{list_after, list_after_all}
-use Rattle.rules.specs.Explore.{Compiled, too_large, lost_start, wide_at, too_many, positions, same_list, among, met, move, numbers, with_inputs, rounds, turn, explore, start, compiled, lists, InRange, AllInRange, led_to, Reachable}
+use Rattle.rules.specs.Explore.{Compiled, too_large, too_many, positions, same_list, among, met, move, numbers, with_inputs, rounds, turn, explore, start, compiled, lists, InRange, AllInRange, led_to, Reachable}
 use Rattle.rules.proofs.CompileLaws.{Each, Ok, run_ok, among_at, same_list_self, Found, found, start_of}
 
 -- lists that are each good, and apart
@@ -71,11 +71,8 @@ module _ (G : List ℕ → Type 0) where
 
   module _ (ps : List Part) (i o : ℕ) (goes : (s : List ℕ) (r : Played) (x : ℕ) (xs : List ℕ) → G s → InRange i o r → list_after ps r (sets s) ≡ sets (x ∷ xs) → G (x ∷ xs)) where
     move_fine : (p : ℕ) (s : List ℕ) (e : Compiled) (r : Played) → InRange i o r → G s → Fine e → Fine (move ps p s e r)
-    move_fine p s too_large r l g h = h
-    move_fine p s lost_start r l g h = h
-    move_fine p s (wide_at q) r l g h = h
-    move_fine p s too_many r l g h = h
     move_fine p s (positions known) r l g h = met_fine p known (list_after ps r (sets s)) h (λ x xs e. goes s r x xs g l e)
+    move_fine p s e r l g h = h
 
     moves_fine : (p : ℕ) (s : List ℕ) (rs : List Played) (e : Compiled) → Each (InRange i o) rs → G s → Fine e → Fine (fold (move ps p s) e rs)
     moves_fine p s [] e l g h = h
@@ -88,13 +85,10 @@ module _ (G : List ℕ → Type 0) where
     explore_fine : (rs : List Played) → Each (InRange i o) rs → (n p : ℕ) (e : Compiled) → Fine e → Fine (explore n ps rs p e)
     unfolding explore
     explore_fine rs l zero p e h = h
-    explore_fine rs l (suc n) p too_large h = h
-    explore_fine rs l (suc n) p lost_start h = h
-    explore_fine rs l (suc n) p (wide_at q) h = h
-    explore_fine rs l (suc n) p too_many h = h
     explore_fine rs l (suc n) p (positions known) h =
         turn_fine known (λ s. explore n ps rs (suc p) (fold (move ps (suc p) s) (positions known) rs)) (drop p known) h
         (λ s more e. explore_fine rs l n (suc p) (fold (move ps (suc p) s) (positions known) rs) (moves_fine (suc p) s rs (positions known) l (each_drop G p known s more h.0 e) h))
+    explore_fine rs l (suc n) p e h = h
 
 -- the rounds that are explored are in range
 numbers_in : (n k b : ℕ) → k + n ≤ b → Each (λ y. y < b) (numbers n k)
@@ -131,7 +125,7 @@ abbrev GoodList : ℕ → ℕ → Rule → List ℕ → Type 0
 GoodList i o f s = ((rs : List Played) × AllInRange i o rs × (led_to f rs ≡ sets s)) × (s ≡ [] → ⊥)
 
 full : (x : ℕ) (xs : List ℕ) → x ∷ xs ≡ [] → ⊥
-full x xs e = let z : ◌≡◌ {A = ℕ} 0 1 = cc in omega arith
+full x xs e = cc
 
 good_goes : (i o : ℕ) (f : Rule) (s : List ℕ) (r : Played) (x : ℕ) (xs : List ℕ) → GoodList i o f s → InRange i o r → list_after (parts_of f).table r (sets s) ≡ sets (x ∷ xs) → GoodList i o f (x ∷ xs)
 good_goes i o f s r x xs g l e =

@@ -3,7 +3,7 @@ use Rattle.std.specs.Prelude.{◌≡◌, ℕ, ◌^◌, ◌<◌, min, true, cond,
 use Rattle.std.proofs.Common.{sym, ap, subst, ◌∙◌, inl, inr, ⊎_elim, arith}
 use Rattle.std.proofs.Math.Logic.Iff
 use Rattle.std.specs.Int.Bits.{bit_and, bit_or}
-use Rattle.std.proofs.lemmas.Bool.{cond_both, eqb-true, or_cases, cases_eq, false≢true}
+use Rattle.std.proofs.lemmas.Bool.{cond_both, eqb-true, or_cases, cases_eq}
 use Rattle.rules.specs.Rule.{bit}
 use Rattle.rules.specs.Sets.{within, covered, insert, ascending, sifted, trim, unions, Sets, too_wide, sets, fit, join_or, join_and}
 use Rattle.rules.proofs.BitLaws.{bit_of_and, bit_of_or, bit_none, bit_own, bit_other}
@@ -79,7 +79,7 @@ all_ascending Q (x ∷ xs) =
     (λ h. ((step.0 h).0, rest.0 (step.0 h).1), λ h. step.1 (h.0, rest.1 h.1))
 
 covered_bad : (Q : ℕ → Type 0) (kept : List ℕ) (x : ℕ) → covered kept x ≡ true → AllBad Q kept → Bad Q x
-covered_bad Q [] x e h = absurd (false≢true e)
+covered_bad Q [] x e h = cc
 covered_bad Q (y ∷ ys) x e h =
     ⊎_elim (λ w. bad_within Q y x w h.0) (λ c. covered_bad Q ys x c h.1) (or_cases (within y x) (covered ys x) e)
 

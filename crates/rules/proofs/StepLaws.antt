@@ -2,28 +2,22 @@
 use Rattle.std.proofs.Common.{◌≡◌, ℕ, zero, suc, ◌<◌, List, refl, ap₂, arith}
 use Rattle.arena.specs.Tally.{Played}
 use Rattle.rules.specs.declared.part.Part.{Part}
-use Rattle.rules.specs.declared.part.Part.TheVariants.{True, False, Literal, Next, Release, Both, Either}
+use Rattle.rules.specs.declared.part.Part.TheVariants.{Next, Release, Both, Either}
 use Rattle.rules.specs.Sets.{Sets, join_or, join_and}
 use Rattle.rules.specs.Parts.{part, Falls, duty_number}
 use Rattle.rules.specs.Progress.{own, list_from, list_in, list_of, after_from, after_in, part_after}
 
 list_same : (f g : ℕ → Sets) (d k : ℕ) (x : Part) → Falls k x → ((a : ℕ) → a < k → f a ≡ g a) → list_from f d x ≡ list_from g d x
-list_same f g d k True l h = refl
-list_same f g d k False l h = refl
-list_same f g d k (Literal s want) l h = refl
-list_same f g d k (Next a) l h = refl
-list_same f g d k (Release a b) l h = refl
 list_same f g d k (Both a b) l h = ap₂ join_and (h a l.0) (h b l.1)
 list_same f g d k (Either a b) l h = ap₂ join_or (h a l.0) (h b l.1)
+list_same f g d k x l h = refl
 
 after_same : (f g u v : ℕ → Sets) (r : Played) (d k : ℕ) (x : Part) → Falls k x → ((a : ℕ) → a < k → f a ≡ g a) → ((a : ℕ) → a < k → u a ≡ v a) → after_from f u r d x ≡ after_from g v r d x
-after_same f g u v r d k True l h i = refl
-after_same f g u v r d k False l h i = refl
-after_same f g u v r d k (Literal s want) l h i = refl
 after_same f g u v r d k (Next a) l h i = h a l
 after_same f g u v r d k (Release a b) l h i = ap₂ (λ x y. join_and y (join_or x (own d))) (i a l.0) (i b l.1)
 after_same f g u v r d k (Both a b) l h i = ap₂ join_and (i a l.0) (i b l.1)
 after_same f g u v r d k (Either a b) l h i = ap₂ join_or (i a l.0) (i b l.1)
+after_same f g u v r d k x l h i = refl
 
 module _ (ps : List Part) (falls : (k : ℕ) → Falls k (part ps k)) where
   list_stays : (n m k : ℕ) → k < n → k < m → list_in n ps k ≡ list_in m ps k

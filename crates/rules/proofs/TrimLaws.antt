@@ -159,7 +159,7 @@ sifted_keeps P kept (x ∷ xs) h =
     (cond_both (covered kept x) kept (kept ++ (x ∷ [])) (Any P) (λ e. h) (λ e. (any_append P kept (x ∷ [])).1 (inl h)))
 
 covered_any : (kept : List ℕ) (x : ℕ) → covered kept x ≡ true → Any (λ y. within y x ≡ true) kept
-covered_any [] x e = absurd (both_ways false refl e)
+covered_any [] x e = cc
 covered_any (y ∷ ys) x e = elim (cases_Bool (within y x)) [
   | inl w ↦ inl w
   | inr w ↦ inr (covered_any ys x (subst (λ b. (b || covered ys x) ≡ true) w e))

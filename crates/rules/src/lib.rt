@@ -6,8 +6,6 @@ ghost use Rattle.rules.specs.Claims.{RulesStand};
 pub mod part;
 
 // The theorems on rules and lists.
-pub fn rules_stand() -> u8
+pub fn rules_stand()
     ensures { RulesStand }
-{
-    0
-}
+{}

@@ -35,17 +35,20 @@ count_at bs p = asked bs p Lost (count_told bs p)
 abbrev pub spoiling_at : List ℕ → ℕ → Result (Option ℕ) Refusal
 spoiling_at bs p = asked bs p None (spoiling_told bs p)
 
--- a refused opening gives the run back as it was
-abbrev pub declined : ℕ → Refusal → Result Round Declined
-declined p e = Err (record { run = record { position = p }; refusal = e })
+-- the answer to the input x that is opened at p, refused in this order: the run is lost, the book has no such record, no
+-- such input
+abbrev pub opening_at : Arena → List ℕ → ℕ → ℕ → Result ℕ Refusal
+opening_at a bs p x =
+    cond (p == 0) (Err RunLost)
+    (cond (readable bs p) (cond (nat_lt x (2 ^ a.inputs)) (Ok (answer_told bs p x)) (Err OutOfRange)) (Err NotThisBook))
 
--- an opening at p with the input x, refused in this order: the run is lost, the book has no such record, no such input
+-- an opening bears the answer as its output; a refused one gives the run back as it was
+abbrev pub as_round : ℕ → ℕ → Result ℕ Refusal → Result Round Declined
+as_round p x (Ok y) = Ok (record { origin = p; input = x; output = y })
+as_round p x (Err e) = Err (record { run = record { position = p }; refusal = e })
+
 abbrev pub open_at : Arena → List ℕ → ℕ → ℕ → Result Round Declined
-open_at a bs p x =
-    cond (p == 0) (declined p RunLost)
-    (cond (readable bs p)
-    (cond (nat_lt x (2 ^ a.inputs)) (Ok (record { origin = p; input = x; output = answer_told bs p x })) (declined p OutOfRange))
-    (declined p NotThisBook))
+open_at a bs p x = as_round p x (opening_at a bs p x)
 
 -- a consultation is an opening that is abandoned: it gives the run back, and the answer
 abbrev pub consulted : Result Round Declined → Result (Run × ℕ) Declined

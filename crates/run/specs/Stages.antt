@@ -6,7 +6,6 @@ use Rattle.terms.specs.declared.call.Call.TheVariants.{Open, Set, Close, Abandon
 use Rattle.terms.specs.declared.call.Reply.{Reply}
 use Rattle.terms.specs.declared.call.Reply.TheVariants.{Output, Changed, Closed, Abandoned, Position, Left, Spoiling, Refused, NotAllowed}
 use Rattle.terms.specs.declared.call.Standing.{Standing}
-use Rattle.terms.specs.declared.call.Step.{Step}
 use Rattle.terms.specs.declared.refusal.Refusal.{Refusal}
 use Rattle.terms.specs.declared.refusal.Refusal.TheVariants.{OutOfRange}
 use Rattle.arena.specs.Arena.{Arena}
@@ -69,8 +68,3 @@ standing_of (Err e) c = Err e
 
 abbrev pub standing_at : List ℕ → ℕ → Result Standing Refusal
 standing_at bs p = standing_of (position_at bs p) (count_at bs p)
-
--- a reply, with where the run then stands
-abbrev pub step_of : Reply → Result Standing Refusal → Result Step Refusal
-step_of r (Ok s) = Ok (record { reply = r; standing = s })
-step_of r (Err e) = Err e

@@ -1,17 +1,19 @@
 // A run between rounds, and an open round, as values that must be spent.
 ghost use Rattle.std.specs.Prelude.{◌≡◌, ◌<◌, ◌≤◌, IfOk};
-ghost use Rattle.run.specs.Calls.{IsNoRound, readable, position_at, count_at, spoiling_at, open_at, consult_at, set_at, set_result};
+ghost use Rattle.run.specs.Calls.{IsNoRound, opening_at, open_at, consult_at, set_at, set_result};
 ghost use Rattle.run.specs.Promise.{Started};
 
+use crate::play::Play;
+use crate::questions::{Questions, position_at};
 use book::accept::accept;
-use book::told::{answer_told, count_told, flag_told, spoiling_told};
+use book::told::answer_told;
 use game::game::{Game, input_count, output_count};
-use terms::count::Count;
 use terms::refusal::Refusal;
 
-// A run between rounds. Its position is 0 where it is lost.
+// A run between rounds.
 #[derive(Drop)]
 pub struct Run {
+    // Kept: 0 where the run is lost, as a game's moves have it; an Option is what the question `position` tells.
     position: u8,
 }
 
@@ -42,121 +44,60 @@ pub struct Declined {
     pub refusal: Refusal,
 }
 
-// Whether the book has the record of a position, with a status.
-fn has_record(book: &[u8], p: u8) -> bool
-    ensures { result ≡ readable book.now p }
+// The book's answer to an input that is opened at a position, or why it is refused.
+fn opening<G: Game>(play: &Play<'_, G>, position: u8, input: u8) -> Result<u8, Refusal>
+    ensures value { result ≡ opening_at (G.meaning play.now.game.now) play.now.book.now position input }
+    ensures stands { IfOk result (λ _. (1 ≤ position) × (input < 16)) }
 {
-    let flag = flag_told(book, p);
-    8 + 24 * p as usize <= book.len() && (flag == 1 || flag == 2)
-}
-
-fn position_at(book: &[u8], p: u8) -> Result<Option<u8>, Refusal>
-    ensures { result ≡ position_at book.now p }
-{
-    if p == 0 {
-        return Ok(None);
+    let position = position_at(play.book, position)?.ok_or(Refusal::RunLost)?;
+    if input >= input_count(play.game) {
+        return Err(Refusal::OutOfRange);
     }
-    if !has_record(book, p) {
-        return Err(Refusal::NotThisBook);
-    }
-    Ok(Some(p))
-}
-
-fn count_at(book: &[u8], p: u8) -> Result<Count, Refusal>
-    ensures { result ≡ count_at book.now p }
-{
-    if p == 0 {
-        return Ok(Count::Lost);
-    }
-    if !has_record(book, p) {
-        return Err(Refusal::NotThisBook);
-    }
-    Ok(count_told(book, p))
-}
-
-fn spoiling_at(book: &[u8], p: u8) -> Result<Option<u8>, Refusal>
-    ensures { result ≡ spoiling_at book.now p }
-{
-    if p == 0 {
-        return Ok(None);
-    }
-    if !has_record(book, p) {
-        return Err(Refusal::NotThisBook);
-    }
-    Ok(spoiling_told(book, p))
+    Ok(answer_told(play.book, position, input))
 }
 
 impl Run {
     // A run of the game from its start, by its book.
-    pub fn start<G: Game>(game: &G, book: &[u8]) -> Result<Run, Refusal>
-        ensures { Started (G.meaning game.now) book.now result }
+    pub fn start<G: Game>(play: &Play<'_, G>) -> Result<Run, Refusal>
+        ensures { Started (G.meaning play.now.game.now) play.now.book.now result }
     {
-        accept(game, book)?;
+        accept(play.game, play.book)?;
         Ok(Run {
-            position: game.start(),
+            position: play.game.start(),
         })
     }
 
     // Opens the round of an input, with the book's answer as its output.
-    pub fn open<G: Game>(self, game: &G, book: &[u8], input: u8) -> Result<Round, Declined>
-        ensures value { result ≡ open_at (G.meaning game.now) book.now self.position input }
+    pub fn open<G: Game>(self, play: &Play<'_, G>, input: u8) -> Result<Round, Declined>
+        ensures value { result ≡ open_at (G.meaning play.now.game.now) play.now.book.now self.position input }
         ensures stands { IfOk result (λ round. (1 ≤ round.origin) × (round.input < 16)) }
     {
-        let Run { position } = self;
-        if position == 0 {
-            return Err(Declined {
-                run: Run { position },
-                refusal: Refusal::RunLost,
-            });
+        // Kept: both arms use the run, which could go into one closure only.
+        match opening(play, self.position, input) {
+            Ok(output) => Ok(Round {
+                origin: self.position,
+                input,
+                output,
+            }),
+            Err(refusal) => Err(Declined { run: self, refusal }),
         }
-        if !has_record(book, position) {
-            return Err(Declined {
-                run: Run { position },
-                refusal: Refusal::NotThisBook,
-            });
-        }
-        if input >= input_count(game) {
-            return Err(Declined {
-                run: Run { position },
-                refusal: Refusal::OutOfRange,
-            });
-        }
-        Ok(Round {
-            origin: position,
-            input,
-            output: answer_told(book, position, input),
-        })
     }
 
     // The book's answer to an input, with no round played.
-    pub fn consult<G: Game>(self, game: &G, book: &[u8], input: u8) -> Result<(Run, u8), Declined>
-        ensures { result ≡ consult_at (G.meaning game.now) book.now self.position input }
+    pub fn consult<G: Game>(self, play: &Play<'_, G>, input: u8) -> Result<(Run, u8), Declined>
+        ensures { result ≡ consult_at (G.meaning play.now.game.now) play.now.book.now self.position input }
     {
-        let round = self.open(game, book, input)?;
+        let round = self.open(play, input)?;
         let output = round.output();
-        let run = round.abandon(game, book);
-        Ok((run, output))
+        Ok((round.abandon(), output))
     }
+}
 
-    // The position, none where the run is lost.
-    pub fn position<G: Game>(&self, _game: &G, book: &[u8]) -> Result<Option<u8>, Refusal>
-        ensures { result ≡ position_at book.now self.now.position }
-    {
-        position_at(book, self.position)
-    }
+impl Questions for Run {
+    ghost asked_at = { λ run. run.position };
 
-    // The count left.
-    pub fn count_left<G: Game>(&self, _game: &G, book: &[u8]) -> Result<Count, Refusal>
-        ensures { result ≡ count_at book.now self.now.position }
-    {
-        count_at(book, self.position)
-    }
-
-    // The spoiling input, none where the run is lost or unlimited.
-    pub fn spoiling_input<G: Game>(&self, _game: &G, book: &[u8]) -> Result<Option<u8>, Refusal>
-        ensures { result ≡ spoiling_at book.now self.now.position }
-    {
-        spoiling_at(book, self.position)
+    fn position<G>(&self, play: &Play<'_, G>) -> Result<Option<u8>, Refusal> {
+        position_at(play.book, self.position)
     }
 }
 
@@ -165,12 +106,12 @@ impl Round {
     pub fn output(&self) -> u8
         ensures { result ≡ self.now.output }
     {
-        let Round { output, .. } = self;
-        *output
+        self.output
     }
 
     // No second round may be opened while one is open: of a round that `open` gave, no caller can show what this asks.
-    pub fn open<G: Game>(self, _game: &G, _book: &[u8], _input: u8) -> Round
+    // Kept: it uses nothing that it is given, since the call that is refused is the one that opens a run.
+    pub fn open<G>(self, _play: &Play<'_, G>, _input: u8) -> Round
         requires { IsNoRound self }
         ensures { result ≡ self }
     {
@@ -178,11 +119,11 @@ impl Round {
     }
 
     // Replaces the output.
-    pub fn set<G: Game>(&mut self, game: &G, _book: &[u8], output: u8) -> Result<(), Refusal>
-        ensures after { self.new ≡ set_at (G.meaning game.now) self.old output }
-        ensures value { result ≡ set_result (G.meaning game.now) output }
+    pub fn set<G: Game>(&mut self, play: &Play<'_, G>, output: u8) -> Result<(), Refusal>
+        ensures after { self.new ≡ set_at (G.meaning play.now.game.now) self.old output }
+        ensures value { result ≡ set_result (G.meaning play.now.game.now) output }
     {
-        if output >= output_count(game) {
+        if output >= output_count(play.game) {
             return Err(Refusal::OutOfRange);
         }
         self.output = output;
@@ -190,8 +131,8 @@ impl Round {
     }
 
     // Ends the round by its move.
-    pub fn close<G: Game>(self, game: &G, _book: &[u8]) -> Run
-        ensures { result.position ≡ (G.meaning game.now).move self.origin self.input self.output }
+    pub fn close<G: Game>(self, play: &Play<'_, G>) -> Run
+        ensures { result.position ≡ (G.meaning play.now.game.now).move self.origin self.input self.output }
     {
         let Round {
             origin,
@@ -199,12 +140,12 @@ impl Round {
             output,
         } = self;
         Run {
-            position: game.step(origin, input, output),
+            position: play.game.step(origin, input, output),
         }
     }
 
     // Ends the round as if it had never been opened.
-    pub fn abandon<G: Game>(self, _game: &G, _book: &[u8]) -> Run
+    pub fn abandon(self) -> Run
         ensures { result.position ≡ self.origin }
     {
         let Round {
@@ -214,25 +155,12 @@ impl Round {
         } = self;
         Run { position: origin }
     }
+}
 
-    // The position where the round was opened.
-    pub fn position<G: Game>(&self, _game: &G, book: &[u8]) -> Result<Option<u8>, Refusal>
-        ensures { result ≡ position_at book.now self.now.origin }
-    {
-        position_at(book, self.origin)
-    }
+impl Questions for Round {
+    ghost asked_at = { λ round. round.origin };
 
-    // The count where the round was opened.
-    pub fn count_left<G: Game>(&self, _game: &G, book: &[u8]) -> Result<Count, Refusal>
-        ensures { result ≡ count_at book.now self.now.origin }
-    {
-        count_at(book, self.origin)
-    }
-
-    // The spoiling input where the round was opened.
-    pub fn spoiling_input<G: Game>(&self, _game: &G, book: &[u8]) -> Result<Option<u8>, Refusal>
-        ensures { result ≡ spoiling_at book.now self.now.origin }
-    {
-        spoiling_at(book, self.origin)
+    fn position<G>(&self, play: &Play<'_, G>) -> Result<Option<u8>, Refusal> {
+        position_at(play.book, self.origin)
     }
 }

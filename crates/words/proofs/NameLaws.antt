@@ -1,34 +1,26 @@
 -- Names that are the same are equal, and what a store of names holds once one is entered.
 use Rattle.std.specs.Prelude.{◌≡◌, ℕ, zero, suc, ◌+◌, ◌-◌, ◌<◌, ◌≤◌, Bool, true, false, cond, not, ◌⊎◌, List, [], ◌∷◌, ◌++◌, map, length, take, replicate, Some, None, Ok, Err, Option, Result, nat_lt, slice_set, refl}
-use Rattle.std.proofs.Common.{sym, ap, ap₂, subst, subst₂, ◌∙◌, append_assoc, inl, inr, arith, eqb}
-use Rattle.std.specs.Cmp.Lexicographic.{pointwise}
+use Rattle.std.proofs.Common.{sym, ap, ap₂, subst, subst₂, ◌∙◌, append_assoc, inl, inr, arith}
 use Rattle.std.specs.List.{AllByRecursion}
-use Rattle.std.proofs.lemmas.Slice.Eq.{slice_eq-Decides}
 use Rattle.std.proofs.lemmas.List.{map-append, length-map, length-append, length-replicate, length-set, take_at, set_at}
 use Rattle.std.proofs.lemmas.Bool.{cases_lt, cond-true, cond-false, le-leb, lt-leb, lt-ltb, le-ltb, both_ways}
-use Rattle.std.proofs.lemmas.Bool.Decides.{same_from_decides, Decides-eqb}
 use Rattle.register.specs.Places.{place, number, kept}
 use Rattle.register.proofs.PlaceLaws.{number_there, number_new, number_full, kept_new}
 use Rattle.terms.specs.declared.refusal.Refusal.{Refusal}
 use Rattle.terms.specs.declared.refusal.Refusal.TheVariants.{BadName, TooManySignals}
 use Rattle.words.specs.declared.name.Name.{Name}
-use Rattle.words.specs.Words.{same}
 use Rattle.words.specs.Same.{same_decides}
 use Rattle.words.specs.Names.{padding, name_of, same_name, HoldsNames}
 use Rattle.words.specs.Signals.{In}
 use Rattle.words.specs.Steps.{counted, entered}
 use Rattle.words.proofs.PlainLaws.{Plain}
 
--- what `==` says of bytes
-pub matched : (xs ys : List ℕ) (r : Bool) → r ≡ pointwise eqb xs ys → r ≡ same xs ys
-matched xs ys r m = same_from_decides r (same xs ys) (slice_eq-Decides Decides-eqb xs ys r m) (same_decides xs ys)
-
 -- zeros behind a name do not hide it
 unpadded : (x y : List ℕ) (m n : ℕ) → Plain x → Plain y → x ++ replicate m 0 ≡ y ++ replicate n 0 → x ≡ y
 unpadded [] [] m n p q e = refl
-unpadded [] (b ∷ y) zero n p q e = let z : ◌≡◌ {A = ℕ} 0 1 = cc in absurd (omega arith)
+unpadded [] (b ∷ y) zero n p q e = cc
 unpadded [] (b ∷ y) (suc m) n p q e = let is : b ≡ 0 = cc in absurd (q.0 is)
-unpadded (a ∷ x) [] m zero p q e = let z : ◌≡◌ {A = ℕ} 0 1 = cc in absurd (omega arith)
+unpadded (a ∷ x) [] m zero p q e = cc
 unpadded (a ∷ x) [] m (suc n) p q e = let is : a ≡ 0 = cc in absurd (p.0 is)
 unpadded (a ∷ x) (b ∷ y) m n p q e =
     let tails : x ++ replicate m 0 ≡ y ++ replicate n 0 = cc in

@@ -2,7 +2,6 @@
 use Rattle.std.proofs.Common.{◌≡◌, ℕ, ◌≤◌, true, false, List, [], ◌∷◌, ◌++◌, map, length, is_err, Ok, Err, Result, sym, refl, ap, ◌∙◌, subst, inl, append_assoc, append-nil, arith}
 use Rattle.std.specs.List.{AllByRecursion}
 use Rattle.std.proofs.lemmas.List.{map-append}
-use Rattle.std.proofs.lemmas.Bool.{true≢false, false≢true}
 use Rattle.terms.specs.declared.refusal.Refusal.{Refusal}
 use Rattle.terms.specs.Refusals as refusals
 use Rattle.words.specs.declared.name.Name.{Name}
@@ -82,7 +81,7 @@ module _ (text : List ℕ) (r : Reader) (i : ℕ) (store : List Name) (so : Read
       not_out i.1
 
   unbegun : (ins outs : List (List ℕ)) → ¬ IsSignals [] ins outs
-  unbegun ins outs s = let e = s.says in let z : ◌≡◌ {A = ℕ} 0 1 = cc in omega arith
+  unbegun ins outs s = let e = s.says in cc
 
   module _ (room : ℕ) (fits : Fits room text) (end : words_from text i ≡ []) where
     whole : Words 0 text so.past
@@ -145,7 +144,7 @@ module _ (room : ℕ) (text : List ℕ) where
     cleared f r mid so h e = one_answer r so.answer so.outcome so.gives (go r so.answer so.outcome so.gives h)
       where
         go : (r : Result Signals Refusal) (a : Answer) → Outcome room text a → Gives r a → is_err r ≡ true → Leaves store a after
-        go (Ok s) a o g h = absurd (false≢true h)
+        go (Ok s) a o g h = cc
         go (Err d) (served ins outs) o g h = absurd g
         go (Err d) (refused k p) o g h = (λ z. absurd (not_store f o z), λ z. e)
 
@@ -156,7 +155,7 @@ module _ (room : ℕ) (text : List ℕ) where
         go : (r : Result Signals Refusal) (a : Answer) → Gives r a → Written a after → is_err r ≡ false → Leaves store a after
         go (Ok s) (served ins outs) g w h = w
         go (Ok s) (refused k p) g w h = absurd g
-        go (Err d) a g w h = absurd (true≢false h)
+        go (Err d) a g w h = cc
 
 -- the names of a text that is served have no zero byte
 pub served_plain : (room : ℕ) (text : List ℕ) (ins outs : List (List ℕ)) → Outcome room text (served ins outs) → AllByRecursion Plain (ins ++ outs)

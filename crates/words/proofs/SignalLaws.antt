@@ -3,7 +3,7 @@ use Rattle.std.proofs.Common.{◌≡◌, ℕ, ◌<◌, ◌≤◌, ◌⊎◌, Lis
 use Rattle.std.specs.List.{AllByRecursion}
 use Rattle.std.proofs.lemmas.List.{map-append, length-append, length-map}
 use Rattle.std.proofs.ByRecursion.{All-append}
-use Rattle.words.specs.Words.{Said, X', G', R', U', F', and', or', not', open', close', in', out', true', false', name', strange', Placed, at, said, Words}
+use Rattle.words.specs.Words.{Said, in', out', name', strange', Placed, at, said, Words}
 use Rattle.words.specs.Signals.{In, Distinct, listed, IsSignals, Begins, Formed, Fault, strange, misplaced, long, repeated, fifth, Told, Answer, served, refused, Outcome, store_short, text_long, reads, word_wrong, end_wrong}
 use Rattle.words.proofs.WordLaws.{words_one}
 
@@ -50,22 +50,8 @@ all_from (x ∷ xs) h = (h x (inl refl), all_from xs (λ y i. h y (inr i)))
 -- ---- the names among words
 
 abbrev one : Said → List (List ℕ)
-one X' = []
-one G' = []
-one R' = []
-one U' = []
-one F' = []
-one and' = []
-one or' = []
-one not' = []
-one open' = []
-one close' = []
-one in' = []
-one out' = []
-one true' = []
-one false' = []
 one (name' x) = x ∷ []
-one (strange' c) = []
+one w = []
 
 abbrev pub names : List Said → List (List ℕ)
 names [] = []
@@ -119,21 +105,21 @@ listed_allowed ins outs = (inl refl, All-append Allowed (map name' ins) (out' �
 
 -- in and out are no names
 pub not_in : {x : List ℕ} → ◌≡◌ {A = Said} in' (name' x) → ⊥
-not_in e = let z : ◌≡◌ {A = ℕ} 0 1 = cc in omega arith
+not_in e = cc
 
 pub not_out : {x : List ℕ} → ◌≡◌ {A = Said} out' (name' x) → ⊥
-not_out e = let z : ◌≡◌ {A = ℕ} 0 1 = cc in omega arith
+not_out e = cc
 
 strange_not : (c : ℕ) → Allowed (strange' c) → ⊥
-strange_not c (inl e) = let z : ◌≡◌ {A = ℕ} 0 1 = cc in omega arith
-strange_not c (inr (inl e)) = let z : ◌≡◌ {A = ℕ} 0 1 = cc in omega arith
-strange_not c (inr (inr i)) = let e = i.1 in let z : ◌≡◌ {A = ℕ} 0 1 = cc in omega arith
+strange_not c (inl e) = cc
+strange_not c (inr (inl e)) = cc
+strange_not c (inr (inr i)) = let e = i.1 in cc
 
 -- behind `in` and names comes a name or `out`
 next_in : (xs ins outs : List (List ℕ)) (w : Said) (rest : List Said) → map name' xs ++ (w ∷ rest) ≡ map name' ins ++ (out' ∷ map name' outs) → GoesIn w
 next_in [] [] outs w rest e = inl (cc)
 next_in [] (i ∷ ins) outs w rest e = inr (i, (cc))
-next_in (x ∷ xs) [] outs w rest e = absurd (not_out {x = x} (cc))
+next_in (x ∷ xs) [] outs w rest e = cc
 next_in (x ∷ xs) (i ∷ ins) outs w rest e = next_in xs ins outs w rest (cc)
 
 -- behind `out` and names comes a name
@@ -141,8 +127,8 @@ next_out : (xs ys ins outs : List (List ℕ)) (w : Said) (rest : List Said) → 
 next_out [] ys [] outs w rest e =
     let same : map name' ys ++ (w ∷ rest) ≡ map name' outs = cc in
     all_in w IsName (map name' outs) (all_names outs) (subst (In w) same (in_right w (map name' ys) (w ∷ rest) (inl refl)))
-next_out [] ys (i ∷ ins) outs w rest e = absurd (not_out {x = i} (cc))
-next_out (x ∷ xs) ys [] outs w rest e = absurd (not_out {x = x} (cc))
+next_out [] ys (i ∷ ins) outs w rest e = cc
+next_out (x ∷ xs) ys [] outs w rest e = cc
 next_out (x ∷ xs) ys (i ∷ ins) outs w rest e = next_out xs ys ins outs w rest (cc)
 
 pub formed_first : (w : Said) → Formed (w ∷ []) → w ≡ in'
@@ -165,7 +151,7 @@ formed_out xs ys w f =
 
 run_out : (ins outs five : List (List ℕ)) (rest : List Said) → map name' ins ++ (out' ∷ map name' outs) ≡ map name' five ++ rest → length five ≤ length ins
 run_out ins outs [] rest e = omega arith
-run_out [] outs (x ∷ five) rest e = absurd (not_out {x = x} (cc))
+run_out [] outs (x ∷ five) rest e = cc
 run_out (i ∷ ins) outs (x ∷ five) rest e = let same : map name' ins ++ (out' ∷ map name' outs) ≡ map name' five ++ rest = cc in omega (arith, run_out ins outs five rest same)
 
 later : (ins outs : List (List ℕ)) (before : List Said) (five : List (List ℕ)) (rest : List Said) → map name' ins ++ (out' ∷ map name' outs) ≡ before ++ (map name' five ++ rest) → (length five ≤ length ins) ⊎ (length five ≤ length outs)
@@ -179,7 +165,7 @@ later (i ∷ ins) outs (b ∷ before) five rest e =
 
 in_row : (ins outs : List (List ℕ)) (before : List Said) (five : List (List ℕ)) (rest : List Said) → 0 < length five → listed ins outs ≡ before ++ (map name' five ++ rest) → (length five ≤ length ins) ⊎ (length five ≤ length outs)
 in_row ins outs [] [] rest h e = absurd (omega arith)
-in_row ins outs [] (x ∷ five) rest h e = absurd (not_in {x = x} (cc))
+in_row ins outs [] (x ∷ five) rest h e = cc
 in_row ins outs (b ∷ before) five rest h e = later ins outs before five rest (cc)
 
 -- ---- a word with a fault begins no signals text
@@ -224,8 +210,8 @@ map_one xs ys e = sym (names_map xs) ∙ ap names e ∙ names_map ys
 
 split_one : (ins ins' outs outs' : List (List ℕ)) → map name' ins ++ (out' ∷ map name' outs) ≡ map name' ins' ++ (out' ∷ map name' outs') → (ins ≡ ins') × (outs ≡ outs')
 split_one [] [] outs outs' e = (refl, map_one outs outs' (cc))
-split_one [] (i ∷ ins') outs outs' e = absurd (not_out {x = i} (cc))
-split_one (i ∷ ins) [] outs outs' e = absurd (not_out {x = i} (cc))
+split_one [] (i ∷ ins') outs outs' e = cc
+split_one (i ∷ ins) [] outs outs' e = cc
 split_one (i ∷ ins) (j ∷ ins') outs outs' e =
     let same : map name' ins ++ (out' ∷ map name' outs) ≡ map name' ins' ++ (out' ∷ map name' outs') = cc in
     let h = split_one ins ins' outs outs' same in

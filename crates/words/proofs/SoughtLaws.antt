@@ -1,7 +1,7 @@
 -- Where a run is found among stored names.
-use Rattle.std.proofs.Common.{◌≡◌, ℕ, zero, suc, ◌-◌, ◌<◌, ◌≤◌, Bool, true, false, ◌⊎◌, ◌↔◌, List, [], ◌∷◌, map, length, get_or, replicate, Some, None, Option, sym, refl, ap, ◌∙◌, subst, inl, inr, arith}
+use Rattle.std.proofs.Common.{◌≡◌, ℕ, zero, suc, ◌-◌, ◌<◌, ◌≤◌, true, false, ◌⊎◌, ◌↔◌, List, [], ◌∷◌, map, length, get_or, take, replicate, Some, None, sym, refl, ap, ◌∙◌, subst, inl, inr, arith}
 use Rattle.std.specs.List.{AllByRecursion}
-use Rattle.std.proofs.lemmas.List.{length-map, get_or_default, get_or_append_left, get_or-map}
+use Rattle.std.proofs.lemmas.List.{length-map, length-take, get_or-take, get_or_default, get_or_append_left, get_or-map}
 use Rattle.std.proofs.ByRecursion.{All-get_or}
 use Rattle.std.proofs.lemmas.Bool.{cases_lt, cases_Bool, cond-true, cond-false, le-leb, lt-leb, both_ways}
 use Rattle.register.specs.Places.{First}
@@ -19,42 +19,43 @@ name_equal a b h = let wrap : List ℕ → Name = λ l. record { bytes = l } in 
 name_self : (a b : Name) → b ≡ a → same_name a b ≡ true
 name_self a b e = (same_decides a.bytes b.bytes).1 (ap (λ n. n.bytes) (sym e))
 
-abbrev is_some : {A : Type 0} → Option A → Bool
-is_some (Some x) = true
-is_some None = false
-
 -- a run that is a name has at most eight bytes
 pub name_of_some : (x : List ℕ) (n : Name) → name_of x ≡ Some n → (length x ≤ 8) × (n ≡ padding x)
 name_of_some x n e = go (cases_lt 8 (length x))
   where
     go : (8 < length x) ⊎ (length x ≤ 8) → (length x ≤ 8) × (n ≡ padding x)
-    go (inl l) = absurd (both_ways (is_some (name_of x)) (ap is_some (cond-false _ _ _ (lt-leb (length x) 8 l))) (ap is_some e))
+    go (inl l) = let none : name_of x ≡ None = cond-false _ _ _ (lt-leb (length x) 8 l) in cc
     go (inr l) = let same_Some : Some n ≡ Some (padding x) = sym e ∙ cond-true _ _ _ (le-leb (length x) 8 l) in (l, (cc))
 
-module _ (store : List Name) (run : List ℕ) (used known k : ℕ) (in_use : known ≤ used) (in_store : known ≤ length store) (all : k < used → k < length store → k < known) where
-  -- the first name that is the same is the one that is sought
-  pub first_named : length run ≤ 8 → First same_name (padding run) known store k → Named store used run k
+module _ (store : List Name) (run : List ℕ) (used k : ℕ) where
+  -- the first name in use that is the same is the one that is sought
+  pub first_named : length run ≤ 8 → First same_name (padding run) (length (take used store)) (take used store) k → Named store used run k
   first_named short f =
       let lt = f.within in
+      let few = length-take used store in
+      let within : k < used = omega arith in
       record {
         short = short;
-        within = omega arith;
+        within = within;
         stored = omega arith;
-        is = name_equal (padding run) (get_or store k (padding [])) (f.alike (padding []));
-        before = λ i l e. both_ways _ (f.before i (padding []) l) (name_self (padding run) (get_or store i (padding [])) e);
+        is = name_equal (padding run) (get_or store k (padding [])) (ap (same_name (padding run)) (sym (get_or-take used store k (padding []) within)) ∙ f.alike (padding []));
+        before = λ i l e. both_ways _ (f.before i (padding []) l) (name_self (padding run) (get_or (take used store) i (padding [])) (get_or-take used store i (padding []) (omega arith) ∙ e));
       }
 
-  pub named_first : Named store used run k → First same_name (padding run) known store k
+  pub named_first : Named store used run k → First same_name (padding run) (length (take used store)) (take used store) k
   named_first n =
-      let lt = all n.within n.stored in
+      let few = length-take used store in
+      let lt = n.within in
+      let le = n.stored in
       record {
-        within = lt;
-        alike = λ d. name_self (padding run) (get_or store k d) (get_or_default store k d (padding []) n.stored ∙ n.is);
-        before = λ i d l. go i d l (cases_Bool (same_name (padding run) (get_or store i d)));
+        within = omega arith;
+        alike = λ d. name_self (padding run) (get_or (take used store) k d) (get_or-take used store k d lt ∙ get_or_default store k d (padding []) le ∙ n.is);
+        before = λ i d l. go i d l (cases_Bool (same_name (padding run) (get_or (take used store) i d)));
       }
     where
-      go : (i : ℕ) (d : Name) → i < k → (same_name (padding run) (get_or store i d) ≡ true) ⊎ (same_name (padding run) (get_or store i d) ≡ false) → same_name (padding run) (get_or store i d) ≡ false
-      go i d l (inl h) = absurd (n.before i l (get_or_default store i (padding []) d (omega (arith, n.stored)) ∙ name_equal (padding run) (get_or store i d) h))
+      go : (i : ℕ) (d : Name) → i < k → (same_name (padding run) (get_or (take used store) i d) ≡ true) ⊎ (same_name (padding run) (get_or (take used store) i d) ≡ false) → same_name (padding run) (get_or (take used store) i d) ≡ false
+      go i d l (inl h) =
+          absurd (n.before i l (get_or_default store i (padding []) d (omega (arith, n.stored)) ∙ sym (get_or-take used store i d (omega (arith, n.within))) ∙ name_equal (padding run) (get_or (take used store) i d) h))
       go i d l (inr h) = h
 
 -- a name is one of those that it stands among

@@ -9,7 +9,7 @@ use Rattle.terms.specs.Refusals as refusals
 use Rattle.words.specs.declared.name.Name.{Name}
 use Rattle.words.specs.declared.signals.Stage.TheVariants.{Before, Inputs, Outputs}
 use Rattle.words.specs.declared.signals.Reader.{Reader}
-use Rattle.words.specs.Words.{Said, X', G', R', U', F', and', or', not', open', close', in', out', true', false', name', strange'}
+use Rattle.words.specs.Words.{Said, in', out', name', strange'}
 use Rattle.words.specs.Names.{HoldsNames}
 use Rattle.words.specs.Signals.{In, Distinct, listed, Begins, Formed, Fault, strange, misplaced, long, repeated, fifth, Told}
 use Rattle.words.specs.Steps.{Sort, begins, turns, other, called, odd, sort, Step, with_input, with_output, by_stage}
@@ -37,9 +37,9 @@ names_of (inputs xs) = xs
 names_of (outputs xs ys) = xs ++ ys
 
 abbrev pub reader_at : Stand → Reader
-reader_at before = record { stage = Before; inputs = 0; outputs = 0 }
-reader_at (inputs xs) = record { stage = Inputs; inputs = length xs; outputs = 0 }
-reader_at (outputs xs ys) = record { stage = Outputs; inputs = length xs; outputs = length ys }
+reader_at before = record { stage = Before; read = record { inputs = 0; outputs = 0 } }
+reader_at (inputs xs) = record { stage = Inputs; read = record { inputs = length xs; outputs = 0 } }
+reader_at (outputs xs ys) = record { stage = Outputs; read = record { inputs = length xs; outputs = length ys } }
 
 abbrev pub Few : Stand → Type 0
 Few before = Unit {0}
@@ -187,7 +187,7 @@ module _ (names : List Name) (p : ℕ) where
   begins_agrees (inputs xs) o h = (misplaced_told (inputs xs) in' tt (λ f. in_goes (formed_in xs in' f)), refl)
     where
       in_goes : GoesIn in' → ⊥
-      in_goes (inl e) = let z : ◌≡◌ {A = ℕ} 0 1 = cc in omega arith
+      in_goes (inl e) = cc
       in_goes (inr i) = not_in i.1
   begins_agrees (outputs xs ys) o h = (misplaced_told (outputs xs ys) in' tt (λ f. not_in (formed_out xs ys in' f).1), refl)
 
@@ -195,7 +195,7 @@ module _ (names : List Name) (p : ℕ) where
   turns_agrees before o h = (misplaced_told before out' tt (λ f. out_in (formed_first out' f)), refl)
     where
       out_in : ◌≡◌ {A = Said} out' in' → ⊥
-      out_in e = let z : ◌≡◌ {A = ℕ} 0 1 = cc in omega arith
+      out_in e = cc
   turns_agrees (inputs xs) o h =
       let all = append-nil xs in
       record {
@@ -249,7 +249,7 @@ module _ (names : List Name) (p : ℕ) where
       apart = distinct_push x xs o.apart fresh;
       plain = All-push Plain xs x o.plain q;
     };
-    is = ap (λ m. let r : Reader = record { stage = Inputs; inputs = m; outputs = 0 } in r) (sym (length_push xs x));
+    is = ap (λ m. let r : Reader = record { stage = Inputs; read = record { inputs = m; outputs = 0 } } in r) (sym (length_push xs x));
     words = name_in xs x;
     holds = h;
   }
@@ -269,7 +269,7 @@ module _ (names : List Name) (p : ℕ) where
           apart = subst Distinct all (distinct_push x (xs ++ ys) o.apart fresh);
           plain = subst (AllByRecursion Plain) all (All-push Plain (xs ++ ys) x o.plain q);
         };
-        is = ap (λ m. let r : Reader = record { stage = Outputs; inputs = length xs; outputs = m } in r) (sym (length_push ys x));
+        is = ap (λ m. let r : Reader = record { stage = Outputs; read = record { inputs = length xs; outputs = m } } in r) (sym (length_push ys x));
         words = name_out xs ys x;
         holds = subst (λ l. HoldsNames l store) all h;
       }
@@ -283,19 +283,8 @@ module _ (names : List Name) (p : ℕ) where
 
   -- the step that the table takes at a word
   pub step_agrees : (s : Stand) → Sound s → 8 ≤ length names → HoldsNames (names_of s) names → (w : Said) → ((x : List ℕ) → w ≡ name' x → Plain x) → Agrees s w p (At s (sort w))
-  step_agrees s o room h X' q = other_agrees s X' refl
-  step_agrees s o room h G' q = other_agrees s G' refl
-  step_agrees s o room h R' q = other_agrees s R' refl
-  step_agrees s o room h U' q = other_agrees s U' refl
-  step_agrees s o room h F' q = other_agrees s F' refl
-  step_agrees s o room h and' q = other_agrees s and' refl
-  step_agrees s o room h or' q = other_agrees s or' refl
-  step_agrees s o room h not' q = other_agrees s not' refl
-  step_agrees s o room h open' q = other_agrees s open' refl
-  step_agrees s o room h close' q = other_agrees s close' refl
   step_agrees s o room h in' q = begins_agrees s o h
   step_agrees s o room h out' q = turns_agrees s o h
-  step_agrees s o room h true' q = other_agrees s true' refl
-  step_agrees s o room h false' q = other_agrees s false' refl
   step_agrees s o room h (name' x) q = called_agrees s x o room h (q x refl)
   step_agrees s o room h (strange' c) q = odd_agrees s c
+  step_agrees s o room h w q = other_agrees s w refl

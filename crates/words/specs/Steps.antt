@@ -58,17 +58,17 @@ Step = Result Reader Refusal × List Name
 
 -- the reader with one more input
 abbrev pub with_input : Reader → Result ℕ Refusal × List Name → Step
-with_input r (Ok n, names) = (Ok (record { stage = r.stage; inputs = n; outputs = r.outputs }), names)
+with_input r (Ok n, names) = (Ok (record { stage = r.stage; read = record { inputs = n; outputs = r.read.outputs } }), names)
 with_input r (Err e, names) = (Err e, names)
 
 -- the reader with one more output
 abbrev pub with_output : Reader → Result ℕ Refusal × List Name → Step
-with_output r (Ok n, names) = (Ok (record { stage = r.stage; inputs = r.inputs; outputs = n }), names)
+with_output r (Ok n, names) = (Ok (record { stage = r.stage; read = record { inputs = r.read.inputs; outputs = n } }), names)
 with_output r (Err e, names) = (Err e, names)
 
 -- the reader in another stage
 abbrev pub moved : Stage → Reader → List Name → Step
-moved s r names = (Ok (record { stage = s; inputs = r.inputs; outputs = r.outputs }), names)
+moved s r names = (Ok (record { stage = s; read = r.read }), names)
 
 -- the table of stages and words
 abbrev pub by_stage : Stage → Reader → List Name → ℕ → Sort → Step
@@ -80,12 +80,12 @@ by_stage Before r names at odd = (Err (StrangeByte at), names)
 by_stage Inputs r names at begins = (Err (Misplaced at), names)
 by_stage Inputs r names at turns = moved Outputs r names
 by_stage Inputs r names at other = (Err (Misplaced at), names)
-by_stage Inputs r names at (called x) = with_input r (entered r.inputs (r.inputs + r.outputs) at (name_of x) names)
+by_stage Inputs r names at (called x) = with_input r (entered r.read.inputs (r.read.inputs + r.read.outputs) at (name_of x) names)
 by_stage Inputs r names at odd = (Err (StrangeByte at), names)
 by_stage Outputs r names at begins = (Err (Misplaced at), names)
 by_stage Outputs r names at turns = (Err (Misplaced at), names)
 by_stage Outputs r names at other = (Err (Misplaced at), names)
-by_stage Outputs r names at (called x) = with_output r (entered r.outputs (r.inputs + r.outputs) at (name_of x) names)
+by_stage Outputs r names at (called x) = with_output r (entered r.read.outputs (r.read.inputs + r.read.outputs) at (name_of x) names)
 by_stage Outputs r names at odd = (Err (StrangeByte at), names)
 
 -- what the reader says at the end, which has the place at
@@ -95,4 +95,4 @@ finished r at = by_end r.stage
     by_end : Stage → Result Signals Refusal
     by_end Before = Err (Misplaced at)
     by_end Inputs = Err (Misplaced at)
-    by_end Outputs = Ok (record { inputs = r.inputs; outputs = r.outputs })
+    by_end Outputs = Ok r.read

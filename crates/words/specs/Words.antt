@@ -25,12 +25,16 @@ said (at w p) = w
 abbrev pub place : Placed → ℕ
 place (at w p) = p
 
--- a byte is a blank (a space or a line feed), a letter a to z, or another
+-- a blank: a space or a line feed
+abbrev pub is_blank : ℕ → Bool
+is_blank b = b == 0x20 || b == 0x0a
+
+-- a byte is a blank, a letter a to z, or another
 pub data Kind : Type 0 where
   blank letter other : Kind
 
 abbrev pub kind : ℕ → Kind
-kind b = cond (b == 0x20 || b == 0x0a) blank (cond (nat_le 97 b && nat_le b 122) letter other)
+kind b = cond (is_blank b) blank (cond (nat_le 97 b && nat_le b 122) letter other)
 
 -- a letter a to z or a digit: what a name goes on with
 abbrev pub goes_on : ℕ → Bool

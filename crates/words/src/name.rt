@@ -1,27 +1,15 @@
 // Names of signals, as they are stored.
-ghost use Rattle.std.specs.Prelude.{◌≡◌, ◌≤◌, length, refl};
+ghost use Rattle.std.specs.Prelude.{◌≡◌, refl};
 ghost use Rattle.std.proofs.Common.{sym, ◌∙◌};
-ghost use Rattle.words.specs.Names.{padding, name_of, same_name};
+ghost use Rattle.words.specs.Names.{name_of, same_name};
 ghost use Rattle.words.specs.Same.{same_decides};
 
 use register::Same;
 
 // A name of at most eight bytes, padded with zeros.
-#[derive(Clone, Copy, PartialEq, Eq, Debug)]
+#[derive(Clone, Copy, PartialEq, Eq, Default, Debug)]
 pub struct Name {
     pub bytes: [u8; 8],
-}
-
-// A run of at most eight bytes, with zeros behind it.
-fn padded(run: &[u8]) -> Name
-    requires { length run.now ≤ 8 }
-    ensures { result ≡ padding run.now }
-{
-    let mut bytes = [0; 8];
-    for (i, b) in run.iter().enumerate() {
-        bytes[i] = *b;
-    }
-    Name { bytes }
 }
 
 impl Name {
@@ -29,11 +17,12 @@ impl Name {
     pub fn of(run: &[u8]) -> Option<Name>
         ensures { result ≡ name_of run.now }
     {
-        if run.len() <= 8 {
-            Some(padded(run))
-        } else {
-            None
+        if run.len() > 8 {
+            return None;
         }
+        let mut bytes = [0; 8];
+        bytes[..run.len()].copy_from_slice(run);
+        Some(Name { bytes })
     }
 }
 
@@ -47,6 +36,6 @@ impl Same for Name {
     ghost transitive = { λ x y z h k. (same_decides x.bytes z.bytes).1 ((same_decides x.bytes y.bytes).0 h ∙ (same_decides y.bytes z.bytes).0 k) };
 
     fn same_as(&self, other: &Name) -> bool {
-        self.bytes == other.bytes
+        self == other
     }
 }

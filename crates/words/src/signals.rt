@@ -12,75 +12,70 @@ use register::{Register, find};
 use terms::refusal::Refusal;
 
 // How many inputs and outputs there are.
-#[derive(Clone, Copy, PartialEq, Eq, Debug)]
+#[derive(Clone, Copy, PartialEq, Eq, Default, Debug)]
 pub struct Signals {
     pub inputs: u8,
     pub outputs: u8,
 }
 
+impl Signals {
+    // How many there are in all.
+    fn count(self) -> usize
+        ensures { result ≡ self.inputs + self.outputs }
+    {
+        self.inputs as usize + self.outputs as usize
+    }
+}
+
 // Which part of a signals text comes next.
-#[derive(Clone, Copy)]
+#[derive(Clone, Copy, Default)]
 enum Stage {
+    #[default]
     Before,
     Inputs,
     Outputs,
 }
 
 // The stage, and how many inputs and outputs were read.
-#[derive(Clone, Copy)]
+#[derive(Clone, Copy, Default)]
 struct Reader {
     stage: Stage,
-    inputs: u8,
-    outputs: u8,
-}
-
-// Enters a name behind the `used` ones, of which `count` are of its kind: how many there are then.
-fn enter_name(
-    names: &mut [Name],
-    used: usize,
-    count: u8,
-    run: &[u8],
-    at: usize,
-) -> Result<u8, Refusal>
-    ensures { (result, names.new) ≡ entered count used at (name_of run.now) names.old }
-{
-    let Some(name) = Name::of(run) else {
-        return Err(Refusal::BadName(at));
-    };
-    let mut register = Register { store: names, used };
-    match register.enter(name) {
-        Some(k) if k < used => Err(Refusal::BadName(at)),
-        Some(_) if count < 4 => Ok(count + 1),
-        _ => Err(Refusal::TooManySignals(at)),
-    }
+    read: Signals,
 }
 
 impl Reader {
+    // Enters a name behind those that were read, of which `count` are of its kind: how many there are then.
+    fn enter(self, names: &mut [Name], count: u8, run: &[u8], at: usize) -> Result<u8, Refusal>
+        ensures { (result, names.new) ≡ entered count (self.read.inputs + self.read.outputs) at (name_of run.now) names.old }
+    {
+        let name = Name::of(run).ok_or(Refusal::BadName(at))?;
+        let used = self.read.count();
+        let mut register = Register { store: names, used };
+        match register.enter(name) {
+            Some(k) if k < used => Err(Refusal::BadName(at)),
+            Some(_) if count < 4 => Ok(count + 1),
+            _ => Err(Refusal::TooManySignals(at)),
+        }
+    }
+
     // The reader behind one more word.
-    fn step(self, names: &mut [Name], token: Token<'_>) -> Result<Reader, Refusal>
+    fn step(mut self, names: &mut [Name], token: Token<'_>) -> Result<Reader, Refusal>
         ensures { (result, names.new) ≡ by_stage self.stage self names.old token.entry.at (sorted (says token.entry.word)) }
     {
-        let used = self.inputs as usize + self.outputs as usize;
         match (self.stage, token.word) {
-            (Stage::Before, Word::In) => Ok(Reader {
-                stage: Stage::Inputs,
-                ..self
-            }),
-            (Stage::Inputs, Word::Out) => Ok(Reader {
-                stage: Stage::Outputs,
-                ..self
-            }),
+            (Stage::Before, Word::In) => self.stage = Stage::Inputs,
+            (Stage::Inputs, Word::Out) => self.stage = Stage::Outputs,
+            // Kept: the reader is a machine matched on stage and word, and each of its two counts has an arm.
             (Stage::Inputs, Word::Name(run)) => {
-                let inputs = enter_name(names, used, self.inputs, run, token.at)?;
-                Ok(Reader { inputs, ..self })
+                self.read.inputs = self.enter(names, self.read.inputs, run, token.at)?;
             }
             (Stage::Outputs, Word::Name(run)) => {
-                let outputs = enter_name(names, used, self.outputs, run, token.at)?;
-                Ok(Reader { outputs, ..self })
+                self.read.outputs = self.enter(names, self.read.outputs, run, token.at)?;
             }
-            (_, Word::Strange(_)) => Err(Refusal::StrangeByte(token.at)),
-            _ => Err(Refusal::Misplaced(token.at)),
+            (_, Word::Strange(_)) => return Err(Refusal::StrangeByte(token.at)),
+            _ => return Err(Refusal::Misplaced(token.at)),
         }
+        Ok(self)
     }
 
     // What was read, at the end of the text.
@@ -88,10 +83,7 @@ impl Reader {
         ensures { result ≡ finished self at }
     {
         match self.stage {
-            Stage::Outputs => Ok(Signals {
-                inputs: self.inputs,
-                outputs: self.outputs,
-            }),
+            Stage::Outputs => Ok(self.read),
             _ => Err(Refusal::Misplaced(at)),
         }
     }
@@ -101,7 +93,7 @@ impl Reader {
 pub fn clear(names: &mut [Name])
     ensures { HoldsNames [] names.new }
 {
-    names.fill(Name { bytes: [0; 8] });
+    names.fill(Name::default());
 }
 
 // Reads the words of a text of at most 1,024 bytes into a cleared store.
@@ -109,12 +101,9 @@ fn read_words(text: &[u8], names: &mut [Name]) -> Result<Signals, Refusal>
     requires { (Fits (length names.old) text.now) × (HoldsNames [] names.old) }
     ensures { Read (length names.old) text.now result names.new }
 {
-    let mut reader = Reader {
-        stage: Stage::Before,
-        inputs: 0,
-        outputs: 0,
-    };
+    let mut reader = Reader::default();
     let mut at = 0;
+    // Kept: an iterator of words would be a type, an impl and their laws more, for this loop alone.
     loop {
         let token = next_word(text, at);
         if let Word::End = token.word {
@@ -150,9 +139,8 @@ pub fn signal_of(names: &[Name], signals: Signals, run: &[u8]) -> Option<usize>
     ensures named { (k : ℕ) → (result ≡ Some k) ↔ Named names.now (signals.inputs + signals.outputs) run.now k }
 {
     let name = Name::of(run)?;
-    let used = signals.inputs as usize + signals.outputs as usize;
-    let known = used.min(names.len());
-    find(&names[..known], &name)
+    let known = names.get(..signals.count()).unwrap_or(names);
+    find(known, &name)
 }
 
 #[cfg(test)]

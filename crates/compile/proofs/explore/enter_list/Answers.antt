@@ -1,23 +1,25 @@
 -- The number that the register gave is that of the list.
-use Rattle.std.proofs.Common.{subst, arith}
-use Rattle.compile.proofs.StoreLaws.{Given, enter_empty, enter_given}
+use Rattle.std.proofs.Common.{◌<◌, length, Some, None, sym, subst, arith}
+use Rattle.std.proofs.lemmas.Bool.{eqb-false}
+use Rattle.register.specs.Places.{Entered}
+use Rattle.compile.specs.Positions.{same_position}
+use Rattle.compile.specs.Charting.{Enters}
+use Rattle.compile.proofs.StoreLaws.{enter_given}
 use Rattle.compile.proofs.explore.enter_list.Goals as goal
 
-pub returns-in-Some : goal.returns-in-Some
-returns-in-Some c =
-    subst (Given c.args.used c.args.list c.args.positions.now _) c.in-Some.is
-    (enter_given c.args.used c.args.list c.args.positions.now c.requires.0 c.requires.1 (omega arith) c.if-list-eq0.false c.registered.result c.registered.new.store c.registered.ensures.value c.registered.ensures.store)
+pub returns-in_err-k-clause-enters : goal.returns-in_err-k-clause-enters
+returns-in_err-k-clause-enters c =
+    let found = c.args.found.now in
+    let more = eqb-false (length c.args.list) 0 (sym c.if-is_empty.ensures) in
+    let some : 0 < length c.args.list = grind arith in
+    let entered = subst (λ e. Entered same_position e found.used found.store.now None c.enter.new.self.store.now) c.of.ensures c.in_err-k.ensures.entered in
+    subst (Enters found.used c.args.list found.store.now c.enter.new.self.store.now) (sym c.from_residual.ensures)
+    (enter_given found.used c.args.list found.store.now c.requires some None c.enter.new.self.store.now entered.value entered.store)
 
-pub overflow_cast-result : goal.overflow_cast-result
-overflow_cast-result c = record { fits = omega (arith, (returns-in-Some c).few) }
-
-pub overflow_add-result : goal.overflow_add-result
-overflow_add-result c = record { fits = omega (arith, (returns-in-Some c).few) }
-
-pub returns-then-list-eq0 : goal.returns-then-list-eq0
-returns-then-list-eq0 c = enter_empty c.args.used c.args.list c.args.positions.now (omega arith) c.if-list-eq0.true
-
-pub returns-in-None : goal.returns-in-None
-returns-in-None c =
-    subst (Given c.args.used c.args.list c.args.positions.now _) c.in-None.is
-    (enter_given c.args.used c.args.list c.args.positions.now c.requires.0 c.requires.1 (omega arith) c.if-list-eq0.false c.registered.result c.registered.new.store c.registered.ensures.value c.registered.ensures.store)
+pub returns-clause-enters : goal.returns-clause-enters
+returns-clause-enters c =
+    let found = c.args.found.now in
+    let more = eqb-false (length c.args.list) 0 (sym c.if-is_empty.ensures) in
+    let some : 0 < length c.args.list = grind arith in
+    let entered = subst (λ e. Entered same_position e found.used found.store.now (Some c.in_ok-k.k) c.enter.new.self.store.now) c.of.ensures c.in_ok-k.ensures.entered in
+    enter_given found.used c.args.list found.store.now c.requires some (Some c.in_ok-k.k) c.enter.new.self.store.now entered.value entered.store

@@ -1,12 +1,8 @@
-use Rattle.std.proofs.Common.{◌≡◌, ◌/◌, ◌^◌, ◌≤◌, eqb, sym, ap, ◌∙◌, arith, pow_mono}
-use Rattle.std.proofs.lemmas.Nat.{and_mask}
+use Rattle.std.proofs.Common.{◌≡◌, ◌/◌, ◌^◌, ◌≤◌, sym, ◌∙◌, arith, pow_mono}
 use Rattle.std.proofs.lemmas.Bool.{ne_eqb, le-ltb}
 use native.Mathlib.Nat.{div-eq_of_lt}
 use Rattle.rules.specs.Rule.{bit}
 use Rattle.compile.proofs.progress.is_on.Goals as goal
-
-pub returns-then-k-lt8 : goal.returns-then-k-lt8
-returns-then-k-lt8 c = ap (λ n. eqb n 1) (and_mask (c.args.number / 2 ^ c.args.k) 1)
 
 pub returns-else-k-lt8 : goal.returns-else-k-lt8
 returns-else-k-lt8 c =

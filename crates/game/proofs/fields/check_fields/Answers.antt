@@ -1,31 +1,50 @@
 -- What is refused, stage by stage: a cut header, a wrong header field, a wrong length, a wrong field of a record.
-use Rattle.std.proofs.Common.{sym, refl, ap, ◌∙◌, subst, arith}
-use Rattle.arena.specs.Diagram.{full_length, Headed, FieldWrong, Refused}
-use Rattle.game.specs.Reading.{WrongFirst}
+use Rattle.std.proofs.Common.{◌≡◌, ℕ, ◌+◌, ◌<◌, ◌≤◌, length, sym, refl, ap, ◌∙◌, subst, arith}
+use Rattle.std.proofs.lemmas.Bool.Decides.{nat_tests}
+use Rattle.arena.specs.Diagram.{full_length, Headed, RecordRight, FieldWrong, First, Refused}
+use Rattle.game.proofs.ReadingLaws.{right_all, passed_on}
 use Rattle.game.proofs.fields.check_fields.Goals as goal
 
-pub returns-then-bytes-lt8 : goal.returns-then-bytes-lt8
-returns-then-bytes-lt8 c = Refused.field _ refl (FieldWrong.cut c.if-bytes-lt8.true refl)
+pub returns-in_err-check : goal.returns-in_err-check
+returns-in_err-check c =
+    let cut : length c.args.bytes.now < 8 = grind (arith, nat_tests) in
+    passed_on _ _ _ _ c.from_residual.ensures.1 (Refused.field _ c.in_err-check.ensures.1 (FieldWrong.cut cut refl))
 
-pub returns-in-Some : goal.returns-in-Some
-returns-in-Some c = Refused.field c.in-Some.k refl (FieldWrong.header c.if-bytes-lt8.false c.in-Some.ensures)
+pub returns-in_err-shape : goal.returns-in_err-shape
+returns-in_err-shape c =
+    let whole : 8 ≤ length c.args.bytes.now = grind (arith, nat_tests) in
+    let wrong = c.in_err-shape.ensures in
+    passed_on _ _ _ _ c.from_residual-in_err-shape.ensures.1 (Refused.field wrong.0 wrong.1 (FieldWrong.header whole wrong.2))
 
-pub returns-then-bytes-shape : goal.returns-then-bytes-shape
-returns-then-bytes-shape c =
-    let headed : Headed c.args.bytes.now = record { whole = c.if-bytes-lt8.false; right = c.in_default.ensures } in
-    Refused.field _ refl (FieldWrong.misfit headed (λ e. c.if-bytes-shape.true (e ∙ ap full_length (sym c.shape_of-shape.ensures))) refl)
+pub returns-in_err-check-2 : goal.returns-in_err-check-2
+returns-in_err-check-2 c =
+    let whole : 8 ≤ length c.args.bytes.now = grind (arith, nat_tests) in
+    let headed : Headed c.args.bytes.now = record { whole = whole; right = c.in_ok-shape.ensures.1 } in
+    passed_on _ _ _ _ c.from_residual-in_err-check-2.ensures.1
+    (Refused.field _ c.in_err-check-2.ensures.1 (FieldWrong.misfit headed (λ e. let long = e ∙ ap full_length (sym c.in_ok-shape.ensures.0) in grind (arith, nat_tests)) refl))
 
-pub records_fault-requires : goal.records_fault-requires
-records_fault-requires c =
-    let right = c.in_default.ensures in
-    let same = c.shape_of-shape.ensures in (
-      omega (arith, (right 0).inputs refl, ap (λ h. h.inputs) same),
-      (omega (arith, (right 1).outputs refl, ap (λ h. h.outputs) same), omega (arith, (right 4).records refl, ap (λ h. h.records) same)),
+pub check_record-requires : goal.check_record-requires
+check_record-requires c =
+    let right = c.in_ok-shape.ensures.1 in
+    let same = c.in_ok-shape.ensures.0 in (
+      (omega arith, omega arith),
+      (omega (arith, (right 0).inputs refl, ap (λ h. h.inputs) same), (omega (arith, (right 1).outputs refl, ap (λ h. h.outputs) same), c.loop-r.invariant)),
     )
 
-pub returns-in-Some-records_fault : goal.returns-in-Some-records_fault
-returns-in-Some-records_fault c =
-    let headed : Headed c.args.bytes.now = record { whole = c.if-bytes-lt8.false; right = c.in_default.ensures } in
-    let same = c.shape_of-shape.ensures in
-    Refused.field c.in-Some-records_fault.k refl
-    (FieldWrong.field (record { headed = headed; long = c.if-bytes-shape.false ∙ ap full_length same }) (subst (λ h. WrongFirst h c.args.bytes.now c.in-Some-records_fault.k) same c.in-Some-records_fault.ensures))
+pub returns-in_err-check_record : goal.returns-in_err-check_record
+returns-in_err-check_record c =
+    let whole : 8 ≤ length c.args.bytes.now = grind (arith, nat_tests) in
+    let headed : Headed c.args.bytes.now = record { whole = whole; right = c.in_ok-shape.ensures.1 } in
+    let long : length c.args.bytes.now ≡ full_length c.in_ok-shape.shape = grind (arith, nat_tests) in
+    let wrong = c.in_err-check_record.ensures in
+    passed_on _ _ _ _ c.from_residual-in_err-check_record.ensures.1
+    (Refused.field wrong.0 wrong.1 (FieldWrong.field (record { headed = headed; long = long ∙ ap full_length c.in_ok-shape.ensures.0 }) (subst (λ h. First (λ j. RecordRight h c.args.bytes.now j → ⊥) wrong.0) c.in_ok-shape.ensures.0 wrong.2)))
+
+pub returns-in_ok-check_record : goal.returns-in_ok-check_record
+returns-in_ok-check_record c =
+    let whole : 8 ≤ length c.args.bytes.now = grind (arith, nat_tests) in
+    let headed : Headed c.args.bytes.now = record { whole = whole; right = c.in_ok-shape.ensures.1 } in
+    let long : length c.args.bytes.now ≡ full_length c.in_ok-shape.shape = grind (arith, nat_tests) in
+    let same = c.in_ok-shape.ensures.0 in
+    let right = right_all c.in_ok-shape.shape c.args.bytes.now (c.loop-r.r + 1) (omega arith) c.in_ok-check_record.ensures in
+    (same, record { measured = record { headed = headed; long = long ∙ ap full_length same }; right = subst (λ h. (k : ℕ) → RecordRight h c.args.bytes.now k) same right })

@@ -1,54 +1,40 @@
 -- Behind the blanks stands the end, a run or a mark.
-use Rattle.std.proofs.Common.{◌≡◌, ◌+◌, ◌-◌, ◌<◌, true, ◌&&◌, leb, length, get_or, take, drop, sym, ◌∙◌, arith}
+use Rattle.std.proofs.Common.{◌≡◌, ℕ, Some, subst, ◌+◌, ◌<◌, length, get_or, sym, ap, ◌∙◌, arith}
 use Rattle.std.proofs.lemmas.Bool.{cond-true, cond-false, or_left}
-use Rattle.words.specs.Words.{spelled}
-use Rattle.words.proofs.WordLaws.{from_end, from_mark, from_run, comes, none_some}
+use Rattle.std.specs.Char.{is_ascii_lowercase}
+use Rattle.words.specs.declared.word.Word.{Word}
+use Rattle.words.specs.Words.{mark, words_from, Comes}
+use Rattle.words.proofs.WordLaws.{passed, solid, from_end, from_run, from_mark, comes}
 use Rattle.words.proofs.reader.next_word.Goals as goal
+use Rattle.words.proofs.reader.next_word.Goals.{then-is_ascii_lowercase, else-is_ascii_lowercase}
 
-pub returns-then-at-len : goal.returns-then-at-len
-returns-then-at-len c =
-    let s = c.skip_blanks-at.ensures in
-    record {
-      comes = λ _. (sym s.words ∙ from_end c.args.text.now c.skip_blanks-at.result (omega arith), c.if-at-len.true);
-      onward = λ _. s.onward;
-      past = λ h. absurd (omega arith);
-      ordered = omega arith;
-      within = s.within;
-      moves = λ w h. absurd (none_some h);
-    }
-
-pub returns-then-is_letter : goal.returns-then-is_letter
-returns-then-is_letter c =
+pub returns-in_default-clause-comes : goal.returns-in_default-clause-comes
+returns-in_default-clause-comes c = λ h.
     let bs = c.args.text.now in
-    let i = c.skip_blanks-at.result in
-    let j = c.run_end-next.result in
-    let s = c.skip_blanks-at.ensures in
-    let here : i < length bs = omega arith in
-    let yes : (leb 97 (get_or bs i 0) && leb (get_or bs i 0) 122) ≡ true = sym c.is_letter.ensures ∙ c.if-is_letter.true in
-    let run = from_run bs i here (cond-false _ _ _ (s.solid here) ∙ cond-true _ _ _ yes) (or_left _ _ yes) j c.run_end-next.ensures.end in
-    let lt : i < j = run.1 in
-    record {
-      comes = λ _. comes bs c.args.from i j (spelled (take (j - i) (drop i bs))) c.spelled_word.result c.spelled_word.ensures (sym s.words ∙ run.0);
-      onward = λ _. s.onward;
-      past = λ h. absurd (omega arith);
-      ordered = omega arith;
-      within = c.run_end-next.ensures.within;
-      moves = λ w h. lt;
-    }
+    let i = c.min-start.result in
+    let j = i + c.blanks.result in
+    let start : i ≡ c.args.from = omega (arith, c.min-start.ensures) in
+    let end : j ≡ length bs = grind (arith, c.in_default.ensures) in
+    (rw (← start) (passed bs i j (ap (λ n. i + n) c.blanks.ensures.count) ∙ from_end bs j (omega arith)), end)
 
-pub returns : goal.returns
-returns c =
+pub returns-clause-comes : goal.returns-clause-comes
+returns-clause-comes c = λ h.
     let bs = c.args.text.now in
-    let i = c.skip_blanks-at.result in
-    let s = c.skip_blanks-at.ensures in
-    let here : i < length bs = omega arith in
-    let no = sym c.is_letter.ensures ∙ c.if-is_letter.false in
-    let is = from_mark bs i here (cond-false _ _ _ (s.solid here) ∙ cond-false _ _ _ no) in
-    record {
-      comes = λ _. comes bs c.args.from i (i + 1) _ c.mark_word.result c.mark_word.ensures (sym s.words ∙ is);
-      onward = λ _. s.onward;
-      past = λ h. absurd (omega arith);
-      ordered = omega arith;
-      within = omega arith;
-      moves = λ w h. omega arith;
-    }
+    let i = c.min-start.result in
+    let j = i + c.blanks.result in
+    let start : i ≡ c.args.from = omega (arith, c.min-start.ensures) in
+    let here : j < length bs = c.in-Some.ensures.lookup.3.0 in
+    let byte : c.in-Some.field-0.now ≡ get_or bs j 0 = c.in-Some.ensures.lookup.3.1 0 in
+    let is = ap (λ n. i + n) c.blanks.ensures.count in
+    let on : words_from bs c.args.from ≡ words_from bs j = rw (← start) (passed bs i j is) in
+    let solid-kind = cond-false _ _ _ (solid bs i j is here) in
+    let lower = ap is_ascii_lowercase (sym byte) ∙ sym c.is_ascii_lowercase.ensures.value in
+    let Goal = λ (p : Word × ℕ). Comes bs c.args.from (record { word = p.0; at = j; next = p.1 }) in
+    elim c.if-is_ascii_lowercase.branch [
+      | then-is_ascii_lowercase w ↦ (
+          let yes = lower ∙ w.if-is_ascii_lowercase.true in
+          let k = j + w.run_length.result in
+          let run = from_run bs j here (solid-kind ∙ cond-true _ _ _ yes) (or_left _ _ yes) k (ap (λ n. j + n) w.run_length.ensures.count) in
+          subst Goal (sym w.next-is) (comes bs c.args.from j k _ w.spelled_word.result w.spelled_word.ensures (on ∙ run.0)))
+      | else-is_ascii_lowercase w ↦ subst Goal (sym w.next-is) (comes bs c.args.from j (j + 1) _ w.mark_word.result (w.mark_word.ensures ∙ ap (λ b. Some (mark b)) byte) (on ∙ from_mark bs j here (solid-kind ∙ cond-false _ _ _ (lower ∙ w.if-is_ascii_lowercase.false))))
+    ]

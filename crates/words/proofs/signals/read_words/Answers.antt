@@ -1,14 +1,17 @@
 -- The store is cleared at the start; each word is read, or is the first that is wrong; the end is the text's.
-use Rattle.std.proofs.Common.{◌≤◌, length, Err, sym, ap, ◌∙◌, subst, arith}
+use Rattle.std.proofs.Common.{rules, ◌≡◌, ◌≤◌, length, Err, sym, ap, ◌∙◌, subst, arith}
 use Rattle.std.proofs.lemmas.Result.{err_from_is_err_and}
 use Rattle.words.specs.Steps.{by_stage, sorted, finished}
 use Rattle.words.specs.Signals.{Read}
 use Rattle.words.proofs.WordLaws.{first_said, end_said}
-use Rattle.words.proofs.ReadLaws.{start, taken, wrong, ended}
+use Rattle.words.proofs.StepLaws.{before, reader_at}
+use Rattle.words.proofs.ReadLaws.{Reading, start, taken, wrong, ended}
 use Rattle.words.proofs.signals.read_words.Goals as goal
 
 pub loop-names-init : goal.loop-names-init
-loop-names-init c = (omega arith, start c.args.text.now c.args.names.now c.requires.1)
+loop-names-init c =
+    let at-start : c.default-reader.result ≡ reader_at before = search rules in
+    (omega arith, subst (λ r. Reading c.args.text.now r 0 c.args.names.now) (sym at-start) (start c.args.text.now c.args.names.now c.requires.1))
 
 pub returns-in-End : goal.returns-in-End
 returns-in-End c =

@@ -5,19 +5,19 @@ use Rattle.compile.proofs.compiled.CompiledRuleGame.step.Goals as goal
 
 pub returns-then-is_outside : goal.returns-then-is_outside
 returns-then-is_outside c =
-    sym (answered_lost c.args.self.now.numbers c.args.self.now.positions.now _ _ _ _ _ _ c.size-size.ensures c.inputs.ensures c.outputs-outputs.ensures (sym c.is_outside.ensures ∙ c.if-is_outside.true))
+    sym (answered_lost c.args.self.now.numbers c.args.self.now.positions.now _ _ _ _ _ _ c.size.ensures c.inputs.ensures c.outputs.ensures (sym c.is_outside.ensures ∙ c.if-is_outside.true))
 
 pub move_in-q-requires : goal.move_in-q-requires
 move_in-q-requires c =
-    let w = answered_found c.args.self.now.numbers c.args.self.now.positions.now _ _ _ _ _ _ c.size-size.ensures c.inputs.ensures c.outputs-outputs.ensures (sym c.is_outside.ensures ∙ c.if-is_outside.false) in
+    let w = answered_found c.args.self.now.numbers c.args.self.now.positions.now _ _ _ _ _ _ c.size.ensures c.inputs.ensures c.outputs.ensures (sym c.is_outside.ensures ∙ c.if-is_outside.false) in
     (w.few, (w.low, (w.input, w.output)))
 
-pub returns-then-q-size : goal.returns-then-q-size
-returns-then-q-size c =
-    let w = answered_found c.args.self.now.numbers c.args.self.now.positions.now _ _ _ _ _ _ c.size-size.ensures c.inputs.ensures c.outputs-outputs.ensures (sym c.is_outside.ensures ∙ c.if-is_outside.false) in
-    asked_within _ _ _ _ _ _ _ _ w c.move_in-q.ensures c.if-q-size.true
+pub returns-then-q-extent : goal.returns-then-q-extent
+returns-then-q-extent c =
+    let w = answered_found c.args.self.now.numbers c.args.self.now.positions.now _ _ _ _ _ _ c.size.ensures c.inputs.ensures c.outputs.ensures (sym c.is_outside.ensures ∙ c.if-is_outside.false) in
+    asked_within _ _ _ _ _ _ _ _ w c.move_in-q.ensures c.if-q-extent.true
 
-pub returns-else-q-size : goal.returns-else-q-size
-returns-else-q-size c =
-    let w = answered_found c.args.self.now.numbers c.args.self.now.positions.now _ _ _ _ _ _ c.size-size.ensures c.inputs.ensures c.outputs-outputs.ensures (sym c.is_outside.ensures ∙ c.if-is_outside.false) in
-    asked_above _ _ _ _ _ _ _ _ w c.move_in-q.ensures c.if-q-size.false
+pub returns-else-q-extent : goal.returns-else-q-extent
+returns-else-q-extent c =
+    let w = answered_found c.args.self.now.numbers c.args.self.now.positions.now _ _ _ _ _ _ c.size.ensures c.inputs.ensures c.outputs.ensures (sym c.is_outside.ensures ∙ c.if-is_outside.false) in
+    asked_above _ _ _ _ _ _ _ _ w c.move_in-q.ensures c.if-q-extent.false

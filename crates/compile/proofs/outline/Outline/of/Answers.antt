@@ -1,4 +1,4 @@
-use Rattle.std.proofs.Common.{◌≡◌, ◌+◌, ◌<◌, length, set, sym, refl, subst, arith}
+use Rattle.std.proofs.Common.{◌≡◌, ◌+◌, ◌<◌, length, set, sym, subst, arith}
 use Rattle.rules.proofs.PartLaws.{duty_below}
 use Rattle.compile.specs.Numbering.{Numbered}
 use Rattle.compile.proofs.NumberLaws.{numbered_none, numbered_other, numbered_duty, numbered_owners}
@@ -30,12 +30,11 @@ loop-k-preserved c =
           subst (λ o. Numbered ps (k + 1) numbers o c.if-is_duty.next) (sym w.owners-is) (subst (λ n. Numbered ps (k + 1) numbers c.loop-k.owners n) (sym w.next-is) more)
     ]
 
-pub returns : goal.returns
-returns c =
+pub invariant_of-result : goal.invariant_of-result
+invariant_of-result c =
     let ps = c.args.parts.now in
     let whole : c.loop-k.k ≡ length ps = omega arith in
     let all = subst (λ k. Numbered ps k c.loop-k.numbers c.loop-k.owners c.loop-k.next) whole c.loop-k.invariant in
     record {
-      outlines = record { short = c.requires.0; falls = c.requires.1.0; numbers = all.numbers_are; duties = c.requires.1.1; owners = numbered_owners ps _ _ _ all };
-      same = refl;
+      outlines = record { short = c.requires.0; falls = c.requires.1.0; numbered = all.numbers_are; duties = c.requires.1.1; owned = numbered_owners ps _ _ _ all };
     }

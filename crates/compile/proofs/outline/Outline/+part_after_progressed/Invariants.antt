@@ -1,8 +1,0 @@
-use Rattle.std.proofs.Common.{◌+◌, ◌*◌}
-use Rattle.compile.proofs.outline.Outline.+part_after_progressed.Given as goal
-
-abbrev pub decreases-progressed : goal.decreases-progressed
-decreases-progressed l = 2 * l.k
-
-abbrev pub decreases-part_after : goal.decreases-part_after
-decreases-part_after l = 2 * l.k + 1
