@@ -112,14 +112,23 @@ def index_loops():
 
 
 def by_hand():
-    yield from by_line(
-        [
-            ("prints", r"impl(<.*>)? fmt::Display for|fn (write_count|sentence_of|name_of|line_of|length_of)\b"),
-            ("compares", r"fn (same_as|at_most|one_more|is_zero|key_of)\b"),
-            ("converts", r"impl(<.*>)? From<|fn (of|status_of|rounds_of|number_of|told_\w+)\b"),
-            ("sorts cases into yes and no", r"fn (is_duty|is_a_duty)\b"),
-        ]
-    )
+    """Printing without Display or a derive, comparing case by case or field by field, converting case by case."""
+    lines = list(code_lines())
+    for k, (f, number, function, line) in enumerate(lines):
+        below = lines[k + 1][3] if k + 1 < len(lines) else ""
+        what = ""
+        if re.search(r"fmt::Display for (Misuse|Fault)|fn (write_count|sentence_of|name_of|line_of|length_of)\b", line):
+            what = "prints"
+        elif re.search(r"fn (at_most|one_more|is_zero|key_of)\b", line):
+            what = "compares"
+        elif re.search(r"fn same_as\(.*\{$", line) and below.strip() not in ("self == other",):
+            what = "compares"
+        elif re.search(r"impl(<.*>)? From<|fn (status_of|rounds_of|number_of|told_\w+)\b|pub fn of\(run", line):
+            what = "converts"
+        elif re.search(r"fn (is_duty|is_a_duty)\b", line) and "matches!" not in " ".join(l for *_, l in lines[k : k + 4]):
+            what = "sorts cases into yes and no"
+        if what and "// Kept: " not in line:
+            yield f"{f}:{number} {function}: {what}: {line.strip()}"
 
 
 def facts():
@@ -151,7 +160,7 @@ def buffers():
     yield from by_line(
         [
             ("a length beside a buffer", r"\b(used|len|count): (usize|u8)\b|positions: &mut \[|parts: &mut \[Part\]|store: &'s mut"),
-            ("parallel arrays", r"\b(numbers|owners): \[|row: Vec|told: String"),
+            ("parallel arrays", r"\b(numbers|owners): \[|row: Vec<Call>,|told: String,"),
             ("a slice whose length a clause fixes", r"requires .*length \w+\.(now|old) ≡ \d+"),
         ]
     )

@@ -1,5 +1,5 @@
 -- A diagram: where its bytes stand, when they are well formed, why they are refused, and the game that they draw.
--- Shape: the numbers in the header. Chain: a position's records. WellFormed, Refused: the two outcomes of reading.
+-- Chain: a position's records. WellFormed, Refused: the two outcomes of reading.
 -- Draws: an arena is the drawn game. drawn: that arena, computed.
 use Rattle.std.specs.Prelude.{◌≡◌, ℕ, zero, suc, ◌+◌, ◌-◌, ◌*◌, ◌^◌, ◌<◌, ◌≤◌, Bool, cond, ◌&&◌, ◌≢◌, ◌⊎◌, List, [], ◌∷◌, ◌++◌, length, ◌==◌, nat_le}
 use Rattle.terms.specs.declared.shape.Shape.{Shape}

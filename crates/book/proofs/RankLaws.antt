@@ -1,7 +1,7 @@
 -- The ranks that the solver keeps.
 use Rattle.std.proofs.Common.{◌≡◌, ℕ, zero, suc, ◌+◌, ◌-◌, ◌<◌, ◌≤◌, Bool, true, false, Decides, ◌≢◌, List, ◌∷◌, ◌++◌, length, get_or, drop, set, replicate, sym, ap, subst, ◌∙◌, inl, inr, arith, get_or-set_other, get_or-set_same}
 use Rattle.std.proofs.lemmas.List.{get_or_past, get_or-drop, get_or_append_left, get_or-append_right, get_or-replicate, length-replicate}
-use Rattle.std.proofs.lemmas.Bool.{cases_Bool, cases_eq, cases_lt, le-leb, lt-leb}
+use Rattle.std.proofs.lemmas.Bool.{false≢true, cases_Bool, cases_eq, cases_lt, le-leb, lt-leb}
 use Rattle.terms.specs.declared.count.Count.TheVariants.{Limited, Unlimited}
 use Rattle.arena.specs.Arena.{Arena, Place}
 use Rattle.arena.specs.Held.{Held, Keeps, Settled}
@@ -54,7 +54,7 @@ tells_raised a k q h = record { most = omega arith; below = λ j l. held_down a 
 tells_over : (a : Arena) (k i q r : ℕ) → k ≤ i → Tells a i q r → (k < r → Held a k q) × (Held a k q → k < r)
 tells_over a k i q r l t = (t.below k, λ h. elim (cases_lt k r) [ inl m ↦ m | inr m ↦ absurd (t.above k m l h) ])
 
-module _ (a : Arena) (k p : ℕ) (rs : List ℕ) (m : Amid a k p rs) where
+module _ {a : Arena} {k p : ℕ} {rs : List ℕ} (m : Amid a k p rs) where
   over_held : (q : ℕ) → (Over rs k q → Held a k q) × (Held a k q → Over rs k q)
   over_held q = elim (cases_lt q p) [
     | inl l ↦ tells_over a k (suc k) q _ (omega arith) (m.done q l)
@@ -76,25 +76,28 @@ module _ (a : Arena) (k p : ℕ) (rs : List ℕ) (m : Amid a k p rs) where
   }
 
   -- p was dropped before
-  pub raise_low : get_or rs p 0 ≤ k → Amid a k (p + 1) rs × (Held a k p → Held a (suc k) p)
-  raise_low l = (amid_same (tells_stays a k p _ l (m.ahead p (omega arith))), λ h. absurd ((m.ahead p (omega arith)).above k l (omega arith) h))
+  pub raise_low : get_or rs p 0 ≤ k → Amid a k (p + 1) rs
+  raise_low l = amid_same (tells_stays a k p _ l (m.ahead p (omega arith)))
 
   -- p is held for k + 1
-  pub raise_kept : Place a p → p < length rs → Keeps a (Over rs k) p → Amid a k (p + 1) (set rs p (k + 2)) × (Held a k p → Held a (suc k) p)
-  raise_kept h i s = (
+  pub raise_kept : Place a p → p < length rs → {r : Bool} → Decides r (Keeps a (Over rs k) p) → r ≡ true → Amid a k (p + 1) (set rs p (k + 2)) × Decides r (Held a k p → Held a (suc k) p)
+  raise_kept h i s e = (
     record {
       done = λ q l. elim (cases_eq q p) [
-        | inl e ↦ rw e (rw (get_or-set_same rs p (k + 2) 0 i) (tells_raised a k p (keeps_held h s)))
+        | inl z ↦ rw z (rw (get_or-set_same rs p (k + 2) 0 i) (tells_raised a k p (keeps_held h (s.0 e))))
         | inr ne ↦ rw (get_or-set_other rs p q (k + 2) 0 ne) (m.done q (omega arith))
       ];
       ahead = λ q l. let ne : q ≢ p = omega arith in rw (get_or-set_other rs p q (k + 2) 0 ne) (m.ahead q (omega arith));
     },
-    λ _. keeps_held h s,
+    ((λ _ _. keeps_held h (s.0 e)), λ _. e),
   )
 
   -- p is dropped
-  pub raise_dropped : k < get_or rs p 0 → (Keeps a (Over rs k) p → ⊥) → Amid a k (p + 1) rs × ((Held a k p → Held a (suc k) p) → ⊥)
-  raise_dropped l n = (amid_same (tells_same a k p _ (λ h. n (held_keeps h)) (m.ahead p (omega arith))), λ h. n (held_keeps (h ((m.ahead p (omega arith)).below k l))))
+  pub raise_dropped : k < get_or rs p 0 → {r : Bool} → Decides r (Keeps a (Over rs k) p) → r ≡ false → Amid a k (p + 1) rs × Decides r (Held a k p → Held a (suc k) p)
+  raise_dropped l s e = (
+    amid_same (tells_same a k p _ (λ h. false≢true (sym e ∙ s.1 (held_keeps h))) (m.ahead p (omega arith))),
+    ((λ t. absurd (false≢true (sym e ∙ t))), λ h. s.1 (held_keeps (h ((m.ahead p (omega arith)).below k l)))),
+  )
 
 pub amid_none : (a : Arena) (k : ℕ) (rs : List ℕ) → Ranks a k rs → Amid a k 1 rs
 amid_none a k rs h = record {

@@ -67,8 +67,9 @@ part_here b bs at k l e = sym (drop-take at 24 (put_mid at k b bs)) ∙ ap (drop
 part_long : (b bs : List ℕ) (at k : ℕ) → k ≡ 24 → at + 24 ≤ length b → length bs ≡ 24 → length (put_mid at k b bs) ≡ length b
 part_long b bs at k f l e = simp (length-append, length-drop) (omega (arith, length-take-le at b (omega arith)))
 
-pub written_more : (a : Arena) (p : ℕ) (b bs : List ℕ) (at k : ℕ) → at ≡ entry_at p → k ≡ 24 → 1 ≤ p → p ≤ a.size → ((v : Values a) → Entry a v p bs) → Written a p b → Written a (p + 1) (put_mid at k b bs)
-written_more a p b bs at k f o low high t w =
+-- the record of p is written too
+pub written_more : {a : Arena} {p : ℕ} {b bs : List ℕ} {at k : ℕ} → at ≡ entry_at p → k ≡ 24 → 1 ≤ p → p ≤ a.size → ((v : Values a) → Entry a v p bs) → Written a p b → Written a (p + 1) (put_mid at k b bs)
+written_more {a} {p} {b} {bs} {at} {k} f o low high t w =
     let full : length bs ≡ 24 = entry_long (t (values a)) in
     let room : at + 24 ≤ length b = omega (arith, w.long) in
     record {
@@ -80,5 +81,6 @@ written_more a p b bs at k f o low high t w =
       ];
     }
 
-pub book_from : (a : Arena) (p : ℕ) (bytes : List ℕ) → 1 ≤ a.size → a.size < p → Written a p bytes → (v : Values a) → Book a v bytes
-book_from a p bytes s l w v = record { sized = s; long = w.long; head = w.head; entries = λ q i. w.entries v q i.0 (omega arith) }
+-- and so all are
+pub book_from : {a : Arena} {p : ℕ} {bytes : List ℕ} → 1 ≤ a.size → a.size < p → Written a p bytes → (v : Values a) → Book a v bytes
+book_from s l w v = record { sized = s; long = w.long; head = w.head; entries = λ q i. w.entries v q i.0 (omega arith) }

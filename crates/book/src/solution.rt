@@ -11,6 +11,7 @@ use std::cmp::Reverse;
 use terms::count::Count;
 
 // A game that is solved: the rank of each position, one more than its count, where top stands for unlimited.
+// Kept: ranks are numbers, since the sweeps need one above each count so far, and no count is.
 #[derive(Drop)]
 pub(crate) struct Solution<'a, G: Game> {
     pub(crate) game: &'a G,

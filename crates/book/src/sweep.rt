@@ -26,6 +26,7 @@ impl<'a, G: Game> Sweeps<'a, G> {
     }
 
     // Whether some output answers x with a move to a position of rank above k.
+    // Kept: the number of the sweep goes along, since within a sweep the ranks are of two sweeps.
     fn is_answered(&self, k: u16, p: u8, x: u8) -> bool
         ensures { Decides result (Answered (G.meaning self.now.game.now) (Over self.now.ranks k) p x) }
     {
@@ -68,9 +69,7 @@ impl<'a, G: Game> Sweeps<'a, G> {
     {
         let mut none = true;
         for p in 1..=self.game.size() {
-            if !self.raise(k, p) {
-                none = false;
-            }
+            none &= self.raise(k, p);
         }
         none
     }

@@ -14,6 +14,7 @@ pub fn entry_at(p: u8) -> usize
 }
 
 // The status flag in the record of p.
+// Kept: each call asks one thing of one position; a type of book and position would be made for every call.
 pub fn flag_told(book: &[u8], p: u8) -> u8
     ensures { result ≡ flag_told book.now p }
 {

@@ -3,7 +3,6 @@ use Rattle.std.proofs.Common.{◌≡◌, ℕ, ◌<◌, Bool, true, ◌⊎◌, in
 use lib.ListN.{length-replicate}
 use Rattle.std.proofs.lemmas.List.{get_or-replicate, get_or_past}
 use Rattle.std.proofs.lemmas.Bool.{cases_lt}
-use Rattle.arena.specs.Tally.{Played}
 use Rattle.rules.specs.declared.part.Part.{Part}
 use Rattle.rules.specs.declared.part.Part.TheVariants.{Literal, Next, Release}
 use Rattle.rules.specs.declared.part.Signal.{Signal}
@@ -17,12 +16,12 @@ use Rattle.compile.specs.declared.progress.Progress.{Progress}
 use Rattle.compile.specs.Known.{Knows, Remembers}
 use Rattle.compile.specs.Progressing.{rule, round, Stays}
 
-module _ (o : Outline) (k : ℕ) (x : Part) (is : part o.parts.now k ≡ x) where
-  pub list_at : list_of o.parts.now k ≡ list_from (list_of o.parts.now) (duty_number o.parts.now k) x
-  list_at = list_step o.parts.now o.outlines.falls k ∙ ap (list_from (list_of o.parts.now) (duty_number o.parts.now k)) is
+module _ (p : Progress) (k : ℕ) {x : Part} (is : part (rule p) k ≡ x) where
+  pub list_at : list_of (rule p) k ≡ list_from (list_of (rule p)) (duty_number (rule p) k) x
+  list_at = list_step (rule p) p.outline.outlines.falls k ∙ ap (list_from (list_of (rule p)) (duty_number (rule p) k)) is
 
-  pub after_at : (r : Played) → part_after o.parts.now r k ≡ after_from (list_of o.parts.now) (part_after o.parts.now r) r (duty_number o.parts.now k) x
-  after_at r = after_step o.parts.now o.outlines.falls r k ∙ ap (after_from (list_of o.parts.now) (part_after o.parts.now r) r (duty_number o.parts.now k)) is
+  pub after_at : part_after (rule p) (round p) k ≡ after_from (list_of (rule p)) (part_after (rule p) (round p)) (round p) (duty_number (rule p) k) x
+  after_at = after_step (rule p) p.outline.outlines.falls (round p) k ∙ ap (after_from (list_of (rule p)) (part_after (rule p) (round p)) (round p) (duty_number (rule p) k)) is
 
 -- an outline of these parts has the number of a part that is a duty, and it is small
 module _ (o : Outline) (ps : List Part) (same : o.parts.now ≡ ps) (k : ℕ) (inside : k < length ps) where

@@ -9,7 +9,7 @@ use Rattle.rules.specs.Progress.{list_after}
 use Rattle.rules.specs.Explore.{Compiled, too_large, lost_start, wide_at, too_many, positions, met, move, rounds, turn, explore}
 use Rattle.compile.specs.declared.position.Position.{Position}
 use Rattle.compile.specs.Positions.{unused, turn_at, reason}
-use Rattle.compile.specs.Charting.{known_in, left_from}
+use Rattle.compile.specs.Charting.{known_in, Stored, left_from}
 use Rattle.compile.proofs.StoreLaws.{known_count, known_at}
 use Rattle.compile.proofs.RoundLaws.{rounds_count, round_at}
 
@@ -59,11 +59,12 @@ module _ (ps : List Part) where
   explore_next n rs p known l = ap (turn (positions known) (λ s. explore n ps rs (suc p) (fold (move ps (suc p) s) (positions known) rs))) (drop-cons known p [] l)
 
   -- the next position is left by its rounds
-  pub explore_more : (i o used p : ℕ) (store : List Position) → p < used → used ≤ length store → p < 256
+  pub explore_more : (i o used p : ℕ) (store : List Position) → Stored used store → p < used
       → explore (256 - p) ps (rounds i o) p (positions (known_in used store)) ≡ explore (256 - (p + 1)) ps (rounds i o) (p + 1) (left_from i o ps used p store)
-  explore_more i o used p store lt fits few =
+  explore_more i o used p store stored lt =
+      let fits : used ≤ length store = omega (arith, stored.room, stored.long) in
       let known = known_in used store in
-      let next : 256 - p ≡ suc (256 - (p + 1)) = omega arith in
+      let next : 256 - p ≡ suc (256 - (p + 1)) = omega (arith, stored.room) in
       let one : suc p ≡ p + 1 = omega arith in
       let is : get_or known p [] ≡ (get_or store p unused).list = known_at used store p fits lt in
       ap (λ n. explore n ps (rounds i o) p (positions known)) next

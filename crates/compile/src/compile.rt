@@ -71,6 +71,7 @@ pub fn compile(
     let texts = read(named, ruled, names, parts)?;
     let signals = texts.signals;
     let count = texts.rule.parts as usize;
+    // Kept: the three stores are cleared behind a refusal.
     match build(
         &parts[..count],
         texts.rule.root as usize,

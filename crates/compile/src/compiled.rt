@@ -36,6 +36,7 @@ impl Compiled {
     }
 
     // The number k, or 0 where the numbers can be no game's.
+    // Kept: any numbers may stand in the struct, and 0 is what a game says where there is none.
     fn offered(self, k: u8) -> u8
         ensures { result ≡ offered self.positions self.inputs self.outputs k }
     {

@@ -32,6 +32,7 @@ fn enter_list(found: &mut Register<'_, Position>, list: DutyList) -> Option<u8>
 }
 
 // A rule that is explored: how its lists go on, and how many signals it has.
+// Kept: what is found goes beside it, since a store that lies two fields deep is not known again where it was lent.
 #[derive(Drop)]
 struct Explorer<'p> {
     progress: Progress<'p>,

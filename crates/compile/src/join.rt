@@ -58,6 +58,7 @@ fn put_unions(xs: &[u32], ys: &[u32], out: &mut [u32])
 }
 
 // Writes the sets of both, one list behind the other.
+// Kept: the two lists are what is joined, and no pair that goes on together.
 fn put_both(xs: &[u32], ys: &[u32], out: &mut [u32])
     requires { length out.old ≡ length xs.now + length ys.now }
     ensures { out.new ≡ xs.now ++ ys.now }

@@ -6,7 +6,9 @@ ghost use Rattle.compile.specs.Outlined.{Outlines, outlines_prop};
 use rules::part::Part;
 
 // The parts of a rule, the duty number of each, and the part of each duty.
-// Kept: the two arrays lead opposite ways, from parts to duties and back, and no index reads both.
+// Kept: the parts are the caller's, so their numbers stand beside them; the owners lead back, from duties to parts. Where
+// there is no such duty the owner is the number of all parts: options in an array of a struct that borrows cannot be read
+// by index yet.
 #[derive(Clone, Copy)]
 pub(crate) struct Outline<'p> {
     pub(crate) parts: &'p [Part],
@@ -24,6 +26,7 @@ impl<'p> Outline<'p> {
         let mut numbers = [0; 64];
         let mut owners = [parts.len() as u8; 32];
         let mut next = 0;
+        // Kept: the duties are counted among the parts, which no one iterator numbers.
         for (k, part) in parts.iter().enumerate() {
             numbers[k] = next;
             if part.is_duty() {

@@ -35,6 +35,7 @@ impl Position {
 }
 
 // Positions are the same where their lists are, wherever their moves lead.
+// Kept: a derived equality would ask that the moves are equal too.
 impl Same for Position {
     ghost same = { same_position };
 

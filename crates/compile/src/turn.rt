@@ -11,8 +11,8 @@ pub(crate) fn count_of(signals: u8) -> usize
     1 << signals
 }
 
-// A round: the numbers of its inputs and its outputs.
-// Kept: its calls are told the number of output signals, at most four, which belongs to the game and not to a round.
+// A round: the number of its input and that of its output.
+// Kept: its calls ask for at most four output signals, since `Signals` may hold any numbers: calls over it are total.
 #[derive(Clone, Copy)]
 pub(crate) struct Turn {
     pub(crate) input: u8,

@@ -22,10 +22,7 @@ const LONGEST: usize = 6128;
 pub fn main_of(rt: &HostRuntime) -> ExitCode {
     match words_of(rt) {
         Ok(words) => report(rt, run(rt, words.as_slice())),
-        Err(error) => {
-            let _ = eprintln!(rt; "cannot read the command line: {error}");
-            ExitCode::FAILURE
-        }
+        Err(error) => report(rt, Err(Fault::NoWords(error))),
     }
 }
 
@@ -79,6 +76,7 @@ fn obey<'a, G: Game>(rt: &HostRuntime, command: Command<'a>, game: &G) -> Result
 }
 
 // Solves the game, prints the table, and writes the book where a file is named for it.
+// Kept: the game is what every command works on, and the file is the command's own.
 fn solve_game<'a, G: Game>(
     rt: &HostRuntime,
     game: &G,

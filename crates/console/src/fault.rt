@@ -17,6 +17,8 @@ pub enum Fault<'a> {
     // The refusal of a text, with its file and its line.
     #[error("{0} (in {1})\n{2}")]
     Marked(Line, &'a str, Mark),
+    #[error("cannot read the command line: {0}")]
+    NoWords(io::Error),
     #[error("{0}\n{USAGE}")]
     Misused(#[from] Misuse<'a>),
     #[error("cannot read {0}: {1}")]
@@ -34,6 +36,7 @@ pub enum Fault<'a> {
     Unkept,
 }
 
+// Kept: a refusal is made a line on its way, which a derived conversion does not do.
 impl<'a> From<Refusal> for Fault<'a> {
     fn from(refusal: Refusal) -> Fault<'a> {
         Fault::Refused(Line(refusal))

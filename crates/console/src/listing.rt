@@ -14,11 +14,8 @@ pub(crate) fn print_texts<'a>(
     texts: Texts,
 ) -> Result<(), Fault<'a>> {
     let names = Names::of(rt, names, texts.signals.inputs)?;
-    for k in 0..texts.signals.inputs {
-        let name = names.name(Signal::Input(k));
-        println!(rt; "input {k}: {name}")?;
-    }
-    print_outputs(rt, &names, texts.signals.outputs)?;
+    print_signals(rt, &names, "input", texts.signals.inputs, Signal::Input)?;
+    print_signals(rt, &names, "output", texts.signals.outputs, Signal::Output)?;
     print_parts(
         rt,
         &names,
@@ -30,15 +27,25 @@ pub(crate) fn print_texts<'a>(
     Ok(())
 }
 
-fn print_outputs<'a>(rt: &HostRuntime, names: &Names, outputs: u8) -> Result<(), Fault<'a>> {
-    for k in 0..outputs {
-        let name = names.name(Signal::Output(k));
-        println!(rt; "output {k}: {name}")?;
+// Prints a line for each signal of a kind.
+fn print_signals<'a, F: Fn(u8) -> Signal>(
+    rt: &HostRuntime,
+    names: &Names,
+    kind: &str,
+    count: u8,
+    signal: F,
+) -> Result<(), Fault<'a>>
+    requires { F.IsAlwaysCallable signal }
+{
+    for k in 0..count {
+        let name = names.name(signal(k));
+        println!(rt; "{kind} {k}: {name}")?;
     }
     Ok(())
 }
 
 fn print_parts<'a>(rt: &HostRuntime, names: &Names, parts: &[Part]) -> Result<(), Fault<'a>> {
+    // Kept: the duties are counted among the parts, which no one iterator numbers.
     let mut duties = 0usize;
     for (k, part) in parts.iter().enumerate() {
         let body = Body { part: *part, names };

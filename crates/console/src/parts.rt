@@ -21,18 +21,14 @@ pub(crate) fn show_parts<'a>(
     let mut parts = [Part::True; 64];
     match read(named.as_slice(), ruled.as_slice(), &mut names, &mut parts) {
         Ok(texts) => print_texts(rt, &names, &parts, texts),
-        Err(
-            Misread {
-                text: Text::Rule,
-                refusal,
-            },
-        ) => {
-            let mark = Mark::at(rt, ruled.as_slice(), refusal.place())?;
-            Err(Fault::Marked(Line(refusal), rule, mark))
-        }
-        Err(Misread { text: _, refusal }) => {
-            let mark = Mark::at(rt, named.as_slice(), refusal.place())?;
-            Err(Fault::Marked(Line(refusal), signals, mark))
+        Err(Misread { text, refusal }) => {
+            // a store that is too short is of neither text, and these are long enough
+            let (file, bytes) = match text {
+                Text::Rule => (rule, ruled.as_slice()),
+                Text::Signals | Text::Neither => (signals, named.as_slice()),
+            };
+            let mark = Mark::at(rt, bytes, refusal.place())?;
+            Err(Fault::Marked(Line(refusal), file, mark))
         }
     }
 }
@@ -67,8 +63,8 @@ impl fmt::Display for Mark {
 // Where the line of a place begins.
 fn line_start(text: &[u8], place: usize) -> usize {
     let before = text.get(..place).unwrap_or(text);
-    match before.iter().rposition(|b| *b == b'\n') {
-        Some(k) => k + 1,
-        None => 0,
-    }
+    before
+        .iter()
+        .rposition(|b| *b == b'\n')
+        .map_or(0, |k| k + 1)
 }

@@ -7,8 +7,7 @@ use run::replay::{finish, replay, take};
 use run::run::Run;
 use run::stage::Stage;
 use std::io;
-use terms::call::{Call, Reply, Standing, Step};
-use terms::count::Count;
+use terms::call::{Call, Reply, Step};
 
 // What was called and told so far.
 type Log = Vec<(Call, Reply)>;
@@ -68,15 +67,8 @@ fn review<'a, G: Game>(
     play: &Play<'_, G>,
     log: &[(Call, Reply)],
 ) -> Result<(), Fault<'a>> {
-    let blank = Step {
-        reply: Reply::NotAllowed,
-        standing: Standing {
-            position: None,
-            count: Count::Lost,
-        },
-    };
     let row: Vec<Call> = log.iter().map(|(call, _)| *call).collect(rt.alloc())?;
-    let mut steps = vec![in rt.alloc(); blank; row.len()]?;
+    let mut steps = vec![in rt.alloc(); Step::default(); row.len()]?;
     let _ = replay(play, row.as_slice(), steps.as_mut_slice())?;
     let mut told = steps.iter().zip(log.iter());
     if told.all(|(step, (_, reply))| step.reply == *reply) {

@@ -41,6 +41,7 @@ fn numbered_call(verb: &str, number: u8) -> Option<Call> {
 }
 
 // A number that no game has is as good as 255.
+// Kept: a conversion would refuse a larger number.
 fn number_of(word: &str) -> Option<u8> {
     let n = word.parse::<u64>().ok()?;
     Some(u8::try_from(n).unwrap_or(255))

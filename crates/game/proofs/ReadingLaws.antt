@@ -15,16 +15,16 @@ use Rattle.game.specs.Reading.{RefusesFirst, RightBelow, Marks, Followed, ChainW
 
 -- ---- fields
 
--- the fields of record r that begin in its first n bytes are right too
-pub right_part : (h : Shape) (bs : List ℕ) (r k n : ℕ) → 1 ≤ r → k ≡ record_at h r → n ≤ 8 → RightBelow h bs (record_at h r) → (0 < n → byte bs k < 2 ^ h.inputs) → (1 < n → byte bs (k + 1) < 2 ^ h.outputs) → (2 < n → (1 ≤ byte bs (k + 2)) × (byte bs (k + 2) ≤ h.size)) → (3 < n → byte bs (k + 3) ≡ 0) → (6 < n → word bs (k + 6) ≡ 0) → RightBelow h bs (k + n)
-right_part h bs r k n low at most below input output destination gap tail j l = elim (cases_lt j (record_at h r)) [
+-- where the fields before the record r are right, and those that begin in its first n bytes, all before the byte n are
+pub right_part : (h : Shape) (bs : List ℕ) (r k n : ℕ) → Record h r → k ≡ record_at h r → n ≤ 8 → RightBelow h bs (record_at h r) → (0 < n → byte bs k < 2 ^ h.inputs) × (1 < n → byte bs (k + 1) < 2 ^ h.outputs) × (2 < n → (1 ≤ byte bs (k + 2)) × (byte bs (k + 2) ≤ h.size)) × (3 < n → byte bs (k + 3) ≡ 0) × (6 < n → word bs (k + 6) ≡ 0) → RightBelow h bs (k + n)
+right_part h bs r k n is at most below f j l = elim (cases_lt j (record_at h r)) [
   | inl b ↦ below j b
   | inr b ↦ record {
-    input = λ q i e. let s : j ≡ k = omega arith in rw s (input (omega arith));
-    output = λ q i e. let s : j ≡ k + 1 = omega arith in rw s (output (omega arith));
-    destination = λ q i e. let s : j ≡ k + 2 = omega arith in rw s (destination (omega arith));
-    gap = λ q i e. let s : j ≡ k + 3 = omega arith in rw s (gap (omega arith));
-    tail = λ q i e. let s : j ≡ k + 6 = omega arith in rw s (tail (omega arith));
+    input = λ q i e. let s : j ≡ k = omega arith in rw s (f.0 (omega arith));
+    output = λ q i e. let s : j ≡ k + 1 = omega arith in rw s (f.1 (omega arith));
+    destination = λ q i e. let s : j ≡ k + 2 = omega arith in rw s (f.2 (omega arith));
+    gap = λ q i e. let s : j ≡ k + 3 = omega arith in rw s (f.3 (omega arith));
+    tail = λ q i e. let s : j ≡ k + 6 = omega arith in rw s (f.4 (omega arith));
   }
 ]
 
@@ -41,10 +41,10 @@ right_all h bs r past below j = elim (cases_lt j (record_at h r)) [
   }
 ]
 
--- a call that passes on the refusal of a field, behind which all are right, refuses the first wrong one
-pub passed_first : {T : Type 0} (r : Result T Refusal) (d : Refusal) (k : ℕ) (P : T → Type 0) (Q : ℕ → Type 0) → IsErrAnd r (λ f. f ≡ d) → d ≡ DiagramField k → First Q k → MatchResult r P (RefusesFirst Q)
-passed_first (Ok x) d k P Q is e f = absurd is
-passed_first (Err g) d k P Q is e f = (k, is ∙ e, f)
+-- a call that passes on the refusal of a field that is wrong, behind which all are right, refuses the first wrong one
+pub passed_first : {T : Type 0} {h : Shape} {bs : List ℕ} {k : ℕ} (r : Result T Refusal) (d : Refusal) (P : T → Type 0) → RightBelow h bs k → IsErrAnd r (λ f. f ≡ d) → d ≡ DiagramField k → (RecordRight h bs k → ⊥) → MatchResult r P (RefusesFirst (λ j. RecordRight h bs j → ⊥))
+passed_first (Ok x) d P below is e wrong = absurd is
+passed_first {k = k} (Err g) d P below is e wrong = (k, is ∙ e, (wrong, λ j l not. not (below j l)))
 
 -- ---- marks of records
 
@@ -95,12 +95,13 @@ chains_none h bs marks f = record {
 }
 
 -- one more chain is whole
-pub chains_more : (h : Shape) (bs : List ℕ) (p : ℕ) (marks new : List Bool) → 1 ≤ p → (c : ChainsWhole h bs (p - 1) marks) → ChainWhole h bs p c.records new → ChainsWhole h bs p new
-chains_more h bs p marks new l c d =
-    let e : suc (p - 1) ≡ p = omega arith in
+pub chains_more : (h : Shape) (bs : List ℕ) (p k : ℕ) (marks new : List Bool) → 1 ≤ p → k ≡ p → ChainsWhole h bs (p - 1) marks → ((qs : List ℕ) → Distinct qs → Marks h marks qs → ChainWhole h bs p qs new) → ChainsWhole h bs k new
+chains_more h bs p k marks new l same c more =
+    let d = more c.records c.apart c.seen in
+    let e : suc (p - 1) ≡ k = omega arith in
     record {
       records = c.records ++ d.records;
-      chains = subst (λ n. Chains h bs n (c.records ++ d.records)) e (c.records, d.records, c.chains, subst (λ n. Chain h bs n d.records) (sym e) d.chain, refl);
+      chains = subst (λ n. Chains h bs n (c.records ++ d.records)) e (c.records, d.records, c.chains, subst (λ n. Chain h bs n d.records) (omega arith) d.chain, refl);
       apart = d.apart;
       seen = d.seen;
     }
@@ -171,8 +172,8 @@ module _ (h : Shape) (bs : List ℕ) (fielded : Fielded bs) (same : h ≡ shape_
 -- ---- fresh chains
 
 -- one more chain repeats no move
-pub fresh_more : (h : Shape) (bs : List ℕ) (p : ℕ) → ChainsFresh h bs (p - 1) → ((rs : List ℕ) → Chain h bs p rs → Unrepeated h bs rs) → ChainsFresh h bs p
-fresh_more h bs p f g q rs l i c = elim (cases_eq q p) [
+pub fresh_more : (h : Shape) (bs : List ℕ) (p k : ℕ) → k ≡ p → ChainsFresh h bs (p - 1) → ((rs : List ℕ) → Chain h bs p rs → Unrepeated h bs rs) → ChainsFresh h bs k
+fresh_more h bs p k same f g q rs l i c = elim (cases_eq q p) [
   | inl e ↦ g rs (subst (λ n. Chain h bs n rs) e c)
   | inr ne ↦ f q rs l (omega arith) c
 ]
@@ -301,16 +302,19 @@ right_drawable bs f small =
 
 -- ---- the search for a move
 
--- the record that the index at k names stands at the place j
-module _ (h : Shape) (bs : List ℕ) (x y m n k j : ℕ) (left : m ≡ suc n) (is : Record h (word bs k)) (at : j ≡ record_at h (word bs k)) where
+-- the search from k finds v, and the record that the index at k names stands at the place j
+module _ (h : Shape) (bs : List ℕ) (k : ℕ) {x y m j v : ℕ} (left : 1 ≤ m) (is : Record h (word bs k)) (at : j ≡ record_at h (word bs k)) (found : sought h bs m k x y ≡ v) where
   -- it is for the move, and leads to a position
-  pub seek_here : byte bs j ≡ x → byte bs (j + 1) ≡ y → byte bs (j + 2) ≤ h.size → sought h bs m k x y ≡ byte bs (j + 2)
+  pub seek_here : byte bs j ≡ x → byte bs (j + 1) ≡ y → byte bs (j + 2) ≤ h.size → byte bs (j + 2) ≡ v
   seek_here a b low =
-      rw (left, at) (sought_here h bs x y n k is (rw at at a, rw at at b) ∙ cond-true _ _ _ (le-leb _ _ (rw at at low)))
+      let s : m ≡ suc (m - 1) = omega arith in
+      sym (rw (s, at) (sought_here h bs x y (m - 1) k is (rw at at a, rw at at b) ∙ cond-true _ _ _ (le-leb _ _ (rw at at low)))) ∙ found
 
   -- it is for another
-  pub seek_past : ((byte bs j ≡ x) × (byte bs (j + 1) ≡ y) → ⊥) → sought h bs m k x y ≡ sought h bs n (j + 4) x y
-  seek_past other = rw (left, at) (sought_past h bs x y n k is (rw at at other))
+  pub seek_past : {n : ℕ} → n ≡ m - 1 → ((byte bs j ≡ x) × (byte bs (j + 1) ≡ y) → ⊥) → sought h bs n (j + 4) x y ≡ v
+  seek_past {n} e other =
+      let s : m ≡ suc n = omega arith in
+      sym (rw (s, at) (sought_past h bs x y n k is (rw at at other))) ∙ found
 
 -- ---- the outcome
 

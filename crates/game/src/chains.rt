@@ -41,7 +41,7 @@ impl Diagram<'_> {
         Ok(marks)
     }
 
-    // Whether every record is in exactly one chain.
+    // Refuses a record that is in no chain, or in two.
     // Kept: with `find` over the records what it found stays an open goal, and the loop refuses where it stands.
     pub(crate) fn check_chains(&self) -> Result<(), Refusal>
         ensures { MatchResult result (λ _. (rs : List ℕ) × Linked self.now.bytes.now rs) (λ e. Refused self.now.bytes.now e) }
@@ -66,8 +66,9 @@ impl Diagram<'_> {
         Some(record_at(self.shape, r))
     }
 
-    // Whether the chain of p repeats no move. Each move is marked as it is met, in a row of 16 for each input.
-    // Kept: the place of the next index stands in the record; an iterator over them would need a count to end by.
+    // Refuses a record of the chain of p that repeats a move. Each move is marked as it is met, in a row of 16 for each input.
+    // Kept: the place of the next index stands in the record; an iterator over a chain would be a type, an impl and its
+    // laws more, for two walks.
     fn check_moves_of(&self, p: u8) -> Result<(), Refusal>
         requires { (rs : List ℕ) × Chain self.now.shape self.now.bytes.now p rs }
         ensures { MatchResult result (λ _. (rs : List ℕ) → Chain self.now.shape self.now.bytes.now p rs → Unrepeated self.now.shape self.now.bytes.now rs) (λ e. (r : ℕ) × (e ≡ Refusal.DiagramRepeat (record_at self.now.shape r)) × ChainRepeats self.now.shape self.now.bytes.now p r) }
@@ -87,7 +88,7 @@ impl Diagram<'_> {
         Ok(())
     }
 
-    // Whether no chain repeats a move.
+    // Refuses a record that repeats a move of its chain.
     pub(crate) fn check_moves(&self) -> Result<(), Refusal>
         requires { (rs : List ℕ) × Linked self.now.bytes.now rs }
         ensures { MatchResult result (λ _. WellFormed self.now.bytes.now) (λ e. Refused self.now.bytes.now e) }

@@ -36,7 +36,8 @@ impl<'a> Diagram<'a> {
     }
 
     // The destination of the record for x and y in the chain of p.
-    // Kept: the place of the next index stands in the record, and the chain is walked as many steps as there are records.
+    // Kept: the place of the next index stands in the record; an iterator over a chain would be a type, an impl and its
+    // laws more, for two walks.
     fn destination(&self, p: u8, x: u8, y: u8) -> u8
         ensures { result ≡ sought self.now.shape self.now.bytes.now self.now.shape.records (head_at p) x y }
     {

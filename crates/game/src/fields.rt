@@ -55,7 +55,7 @@ fn read_header(bytes: &[u8]) -> Result<Shape, Refusal>
     Ok(shape)
 }
 
-// Whether the fields of record r are right, its index left out.
+// Refuses the first field of record r that is not right, its index left out.
 fn check_record(shape: Shape, bytes: &[u8], r: u16) -> Result<(), Refusal>
     requires { (Record shape r) × ((shape.inputs ≤ 4) × ((shape.outputs ≤ 4) × (RightBelow shape bytes.now (record_at shape r)))) }
     ensures { MatchResult result (λ _. RightBelow shape bytes.now (record_at shape (r + 1))) (RefusesFirst (λ j. RecordRight shape bytes.now j → ⊥)) }

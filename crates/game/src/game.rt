@@ -35,6 +35,7 @@ pub trait Game {
 }
 
 // How many inputs a round can have.
+// Kept: of outputs it is the same, a line each, as the trait has the two numbers.
 pub fn input_count<G: Game>(g: &G) -> u8
     ensures { (result ≡ 2 ^ (G.meaning g.now).inputs) × (result ≤ 16) }
 {

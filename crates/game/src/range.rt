@@ -3,6 +3,7 @@ ghost use Rattle.std.specs.Prelude.{◌≡◌, ◌^◌, ◌≤◌, ◌||◌, nat
 ghost use Rattle.arena.specs.Arena.{beyond};
 
 // How many numbers have so many bits.
+// Kept: it asks for at most four, so it is no public call; the compiled rule has its own, of another width.
 pub(crate) fn count_of(bits: u8) -> u8
     requires { bits ≤ 4 }
     ensures { (result ≡ 2 ^ bits) × (result ≤ 16) }

@@ -1,5 +1,5 @@
 -- The grammar and the machine agree.
-use Rattle.std.proofs.Common.{◌≡◌, ℕ, ◌↔◌, List, sym, ◌∙◌, subst}
+use Rattle.std.proofs.Common.{◌≡◌, ℕ, ◌↔◌, List}
 use Rattle.words.specs.Words.{Said}
 use Rattle.rules.specs.Rule.{Rule}
 use Rattle.reader.specs.Grammar.{Names, Reads}
@@ -7,12 +7,8 @@ use Rattle.reader.specs.Allowed.{End, accepts, stops, run, start}
 use Rattle.reader.proofs.PassLaws.{accepted}
 use Rattle.reader.proofs.ReadLaws.{AText, reads, stopped, read}
 
-abbrev Accepts : End → Type 0
-Accepts accepts = Unit {0}
-Accepts (stops k rest) = ⊥
-
 pub not_both : {e : End} {k : ℕ} {rest : List Said} → e ≡ accepts → e ≡ stops k rest → ⊥
-not_both h k = subst Accepts (sym h ∙ k) tt
+not_both h k = cc
 
 module _ (known : Names) (n : ℕ) where
   pub from_accepts : (ws : List Said) → run known (start n) ws ≡ accepts → (t : Rule) × Reads known n ws t

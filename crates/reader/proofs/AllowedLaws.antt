@@ -1,6 +1,6 @@
 -- The table with other names, and with more levels.
-use Rattle.std.proofs.Common.{◌≡◌, ℕ, zero, suc, Bool, true, false, List, [], ◌∷◌, Some, None, Option, refl, ap, arith}
-use Rattle.words.specs.Words.{Said, X', G', R', U', F', and', or', not', open', close', in', out', true', false', name', strange'}
+use Rattle.std.proofs.Common.{◌≡◌, ℕ, zero, suc, Bool, true, false, List, [], ◌∷◌, Some, None, Option, refl}
+use Rattle.words.specs.Words.{Said, X', G', R', U', F', and', or', not', open', close', true', false', name', strange'}
 use Rattle.rules.specs.declared.part.Signal.{Signal}
 use Rattle.reader.specs.Grammar.{Names}
 use Rattle.reader.specs.Allowed.{State, due, named, done, Step, moves, refused, if_known, step}
@@ -17,40 +17,12 @@ lift (named b os) = named (suc b) (ups os)
 lift (done b os) = done (suc b) (ups os)
 
 abbrev pub strange_word : Said → Bool
-strange_word true' = false
-strange_word false' = false
-strange_word (name' x) = false
-strange_word not' = false
-strange_word X' = false
-strange_word G' = false
-strange_word open' = false
-strange_word close' = false
-strange_word and' = false
-strange_word or' = false
-strange_word R' = false
-strange_word in' = false
-strange_word out' = false
-strange_word U' = false
-strange_word F' = false
 strange_word (strange' c) = true
+strange_word w = false
 
 abbrev pub name_word : Said → Bool
-name_word true' = false
-name_word false' = false
 name_word (name' x) = true
-name_word not' = false
-name_word X' = false
-name_word G' = false
-name_word open' = false
-name_word close' = false
-name_word and' = false
-name_word or' = false
-name_word R' = false
-name_word in' = false
-name_word out' = false
-name_word U' = false
-name_word F' = false
-name_word (strange' c) = false
+name_word w = false
 
 -- why a word is refused, or that it is not; and what the table says with every name known, and with a level more
 pub data Why (known : Names) (s : State) : Said → Step → Type 0 where
@@ -78,49 +50,25 @@ module _ (known : Names) where
   why (due (suc n) b os) G' = fine refl refl
   why (due zero b os) open' = deep (due 0 0 (suc b ∷ ups os)) refl refl refl refl refl
   why (due (suc n) b os) open' = fine refl refl
-  why (due n b os) close' = misplaced refl refl refl refl
-  why (due n b os) and' = misplaced refl refl refl refl
-  why (due n b os) or' = misplaced refl refl refl refl
-  why (due n b os) R' = misplaced refl refl refl refl
-  why (due n b os) in' = misplaced refl refl refl refl
-  why (due n b os) out' = misplaced refl refl refl refl
   why (due n b os) U' = until
   why (due n b os) F' = finally
   why (due n b os) (strange' c) = strange
-  why (named b os) true' = misplaced refl refl refl refl
-  why (named b os) false' = misplaced refl refl refl refl
+  why (due n b os) w = misplaced refl refl refl refl
   why (named b os) (name' x) = why_name (named b os) (done b os) x (known x) refl refl refl
-  why (named b os) not' = misplaced refl refl refl refl
-  why (named b os) X' = misplaced refl refl refl refl
-  why (named b os) G' = misplaced refl refl refl refl
-  why (named b os) open' = misplaced refl refl refl refl
-  why (named b os) close' = misplaced refl refl refl refl
-  why (named b os) and' = misplaced refl refl refl refl
-  why (named b os) or' = misplaced refl refl refl refl
-  why (named b os) R' = misplaced refl refl refl refl
-  why (named b os) in' = misplaced refl refl refl refl
-  why (named b os) out' = misplaced refl refl refl refl
   why (named b os) U' = until
   why (named b os) F' = finally
   why (named b os) (strange' c) = strange
-  why (done b os) true' = misplaced refl refl refl refl
-  why (done b os) false' = misplaced refl refl refl refl
-  why (done b os) (name' x) = misplaced refl refl refl refl
-  why (done b os) not' = misplaced refl refl refl refl
-  why (done b os) X' = misplaced refl refl refl refl
-  why (done b os) G' = misplaced refl refl refl refl
-  why (done b os) open' = misplaced refl refl refl refl
+  why (named b os) w = misplaced refl refl refl refl
   why (done b []) close' = misplaced refl refl refl refl
   why (done b (o ∷ os)) close' = fine refl refl
   why (done b os) and' = fine refl refl
   why (done b os) or' = fine refl refl
   why (done zero os) R' = deep (due 0 0 (ups os)) refl refl refl refl refl
   why (done (suc b) os) R' = fine refl refl
-  why (done b os) in' = misplaced refl refl refl refl
-  why (done b os) out' = misplaced refl refl refl refl
   why (done b os) U' = until
   why (done b os) F' = finally
   why (done b os) (strange' c) = strange
+  why (done b os) w = misplaced refl refl refl refl
 
 abbrev pub number : Step → ℕ
 number (moves s) = 0
@@ -130,14 +78,6 @@ number (refused k) = k
 pub stays : (s : State) (w : Said) → step free s w ≡ refused 3 → step free (lift s) w ≡ refused 3
 stays s w h = go (why free s w) h
   where
-    apart : {e : Step} → e ≡ refused 3 → number e ≡ 3
-    apart h = ap number h
-
     go : {v : Said} {e : Step} → Why free s v e → e ≡ refused 3 → step free (lift s) v ≡ refused 3
-    go (fine a b) h = absurd (omega (arith, apart h))
-    go strange h = absurd (omega (arith, apart h))
     go (misplaced a b c d) h = d
-    go (unknown q a b) h = absurd (omega (arith, apart h))
-    go until h = absurd (omega (arith, apart h))
-    go finally h = absurd (omega (arith, apart h))
-    go (deep q a b c d e) h = absurd (omega (arith, apart h))
+    go y h = cc

@@ -4,9 +4,9 @@ use Rattle.terms.specs.declared.refusal.Refusal.{Refusal}
 use Rattle.terms.specs.declared.refusal.Refusal.TheVariants.{TooDeep}
 use Rattle.terms.specs.Refusals as refusals
 use Rattle.words.specs.declared.word.Word.{Word}
-use Rattle.words.specs.declared.word.Word.TheVariants.{Next, Always, Release, Until, Finally, And, Or, Not, Open, Close, In, Out, True, False, Name, Strange, End}
+use Rattle.words.specs.declared.word.Word.TheVariants.{Next, Always, Release, And, Or, Not, Open, Close, True, False, Name, End}
 use Rattle.words.specs.declared.word.Token.{Token}
-use Rattle.words.specs.Words.{Said, X', G', R', U', F', and', or', not', open', close', in', out', true', false', name', strange', at, said, words_from}
+use Rattle.words.specs.Words.{Said, X', G', R', and', or', not', open', close', name', at, said, words_from}
 use Rattle.rules.specs.declared.part.Part.{Part}
 use Rattle.rules.specs.declared.part.Part.TheVariants as part
 use Rattle.rules.specs.Rule.{Rule, never, literal, next, release, both, either}
@@ -26,41 +26,17 @@ use Rattle.reader.proofs.EntryLaws.{leaf_enters, one_enters, two_enter}
 
 -- which word says this, where a part of a rule may go on with it
 abbrev Back : Said → Word → Type 0
-Back X' w = Unit {0}
-Back G' w = Unit {0}
 Back R' w = w ≡ Release
-Back U' w = Unit {0}
-Back F' w = Unit {0}
 Back and' w = w ≡ And
 Back or' w = w ≡ Or
-Back not' w = Unit {0}
-Back open' w = Unit {0}
-Back close' w = Unit {0}
-Back in' w = Unit {0}
-Back out' w = Unit {0}
-Back true' w = Unit {0}
-Back false' w = Unit {0}
-Back (name' x) w = Unit {0}
-Back (strange' b) w = Unit {0}
+Back s w = Unit {0}
 
 back : (w : Word) (s : Said) → told w ≡ Some s → Back s w
-back Next s e = subst (λ z. Back z Next) (some_one e) tt
-back Always s e = subst (λ z. Back z Always) (some_one e) tt
 back Release s e = subst (λ z. Back z Release) (some_one e) refl
-back Until s e = subst (λ z. Back z Until) (some_one e) tt
-back Finally s e = subst (λ z. Back z Finally) (some_one e) tt
 back And s e = subst (λ z. Back z And) (some_one e) refl
 back Or s e = subst (λ z. Back z Or) (some_one e) refl
-back Not s e = subst (λ z. Back z Not) (some_one e) tt
-back Open s e = subst (λ z. Back z Open) (some_one e) tt
-back Close s e = subst (λ z. Back z Close) (some_one e) tt
-back In s e = subst (λ z. Back z In) (some_one e) tt
-back Out s e = subst (λ z. Back z Out) (some_one e) tt
-back True s e = subst (λ z. Back z True) (some_one e) tt
-back False s e = subst (λ z. Back z False) (some_one e) tt
-back (Name x) s e = subst (λ z. Back z (Name x)) (some_one e) tt
-back (Strange b) s e = subst (λ z. Back z (Strange b)) (some_one e) tt
-back End s e = absurd (let z : ◌≡◌ {A = ℕ} 0 1 = cc in omega arith)
+back End s e = cc
+back w s e = subst (λ z. Back z w) (some_one e) tt
 
 head_one : {s u : Said} {ws ms : List Said} → ◌≡◌ {A = List Said} (s ∷ ws) (u ∷ ms) → s ≡ u
 head_one e = cc
@@ -70,7 +46,7 @@ abbrev Heads : Option Said → List Said → List Said → Type 0
 Heads (Some s) ws ms = ws ≡ s ∷ ms
 Heads None ws ms = ws ≡ []
 
-module _ (text : List ℕ) (p : ℕ) (t : Token) where
+module _ {text : List ℕ} {p : ℕ} {t : Token} where
   heads : Peek text p t → Heads (told t.word) (saids text p) (saids text t.next)
   heads (scan.word s e h) = subst (λ o. Heads o (saids text p) (saids text t.next)) (sym e) (ap (map said) h)
   heads (scan.end e h a) = subst (λ w. Heads (told w) (saids text p) (saids text t.next)) (sym e) (ap (map said) h)
@@ -78,7 +54,7 @@ module _ (text : List ℕ) (p : ℕ) (t : Token) where
   -- the word that is heard
   pub heard : {s : Said} → Peek text p t → told t.word ≡ Some s → words_from text p ≡ at s t.at ∷ words_from text t.next
   heard (scan.word u e h) i = h ∙ ap (λ z. at z t.at ∷ words_from text t.next) (some_one (sym e ∙ i))
-  heard (scan.end e h a) i = absurd (let k = ap told (sym e) ∙ i in let z : ◌≡◌ {A = ℕ} 0 1 = cc in omega arith)
+  heard (scan.end e h a) i = cc (ap told (sym e) ∙ i)
 
   pub says : {s : Said} → Peek text p t → told t.word ≡ Some s → saids text p ≡ s ∷ saids text t.next
   says k i = ap (map said) (heard k i)
@@ -91,7 +67,7 @@ module _ (text : List ℕ) (p : ℕ) (t : Token) where
 
   first : (ms : List Said) (s : Said) → Peek text p t → saids text p ≡ s ∷ ms → told t.word ≡ Some s
   first ms s (scan.word u e h) i = e ∙ ap Some (head_one (sym (ap (map said) h) ∙ i))
-  first ms s (scan.end e h a) i = absurd (let k = sym (ap (map said) h) ∙ i in let z : ◌≡◌ {A = ℕ} 0 1 = cc in omega arith)
+  first ms s (scan.end e h a) i = cc (sym (ap (map said) h) ∙ i)
 
   -- a word that is not this one does not go on with it
   pub past_and : Peek text p t → (t.word ≡ And → ⊥) → Past and' (saids text p)
@@ -138,92 +114,44 @@ module _ (known : Names) where
   bad_due : (w : Word) (ws ms : List Said) (n b : ℕ) (os : List ℕ) → Heads (told w) ws ms → (w ≡ True → ⊥) → (w ≡ False → ⊥) → ((x : _) → w ≡ Name x → ⊥) → (w ≡ Not → ⊥) → (w ≡ Next → ⊥) → (w ≡ Always → ⊥) → (w ≡ Open → ⊥) → run known (due n b os) ws ≡ stops (number_of w) ws
   bad_due Next ws ms n b os h t f m g x' g' o = absurd (x' refl)
   bad_due Always ws ms n b os h t f m g x' g' o = absurd (g' refl)
-  bad_due Release ws ms n b os h t f m g x' g' o = rw h
-  bad_due Until ws ms n b os h t f m g x' g' o = rw h
-  bad_due Finally ws ms n b os h t f m g x' g' o = rw h
-  bad_due And ws ms n b os h t f m g x' g' o = rw h
-  bad_due Or ws ms n b os h t f m g x' g' o = rw h
   bad_due Not ws ms n b os h t f m g x' g' o = absurd (g refl)
   bad_due Open ws ms n b os h t f m g x' g' o = absurd (o refl)
-  bad_due Close ws ms n b os h t f m g x' g' o = rw h
-  bad_due In ws ms n b os h t f m g x' g' o = rw h
-  bad_due Out ws ms n b os h t f m g x' g' o = rw h
   bad_due True ws ms n b os h t f m g x' g' o = absurd (t refl)
   bad_due False ws ms n b os h t f m g x' g' o = absurd (f refl)
   bad_due (Name x) ws ms n b os h t f m g x' g' o = absurd (m x refl)
-  bad_due (Strange y) ws ms n b os h t f m g x' g' o = rw h
-  bad_due End ws ms n b os h t f m g x' g' o = rw h
+  bad_due w ws ms n b os h t f m g x' g' o = rw h
 
   -- a word that is no name is refused behind a `!`
   bad_named : (w : Word) (ws ms : List Said) (b : ℕ) (os : List ℕ) → Heads (told w) ws ms → ((x : _) → w ≡ Name x → ⊥) → run known (named b os) ws ≡ stops (number_of w) ws
-  bad_named Next ws ms b os h m = rw h
-  bad_named Always ws ms b os h m = rw h
-  bad_named Release ws ms b os h m = rw h
-  bad_named Until ws ms b os h m = rw h
-  bad_named Finally ws ms b os h m = rw h
-  bad_named And ws ms b os h m = rw h
-  bad_named Or ws ms b os h m = rw h
-  bad_named Not ws ms b os h m = rw h
-  bad_named Open ws ms b os h m = rw h
-  bad_named Close ws ms b os h m = rw h
-  bad_named In ws ms b os h m = rw h
-  bad_named Out ws ms b os h m = rw h
-  bad_named True ws ms b os h m = rw h
-  bad_named False ws ms b os h m = rw h
   bad_named (Name x) ws ms b os h m = absurd (m x refl)
-  bad_named (Strange y) ws ms b os h m = rw h
-  bad_named End ws ms b os h m = rw h
+  bad_named w ws ms b os h m = rw h
 
   -- a word that closes no bracket is refused behind a rule in brackets
   bad_inside : (w : Word) (ws ms : List Said) (m b : ℕ) (os : List ℕ) → Heads (told w) ws ms → Ends rule ws → (w ≡ Close → ⊥) → run known (done m (b ∷ os)) ws ≡ stops (number_of w) ws
-  bad_inside Next ws ms m b os h e c = rw h
-  bad_inside Always ws ms m b os h e c = rw h
   bad_inside Release ws ms m b os h e c = absurd (e.2 _ h)
-  bad_inside Until ws ms m b os h e c = rw h
-  bad_inside Finally ws ms m b os h e c = rw h
   bad_inside And ws ms m b os h e c = absurd (e.0 _ h)
   bad_inside Or ws ms m b os h e c = absurd (e.1 _ h)
-  bad_inside Not ws ms m b os h e c = rw h
-  bad_inside Open ws ms m b os h e c = rw h
   bad_inside Close ws ms m b os h e c = absurd (c refl)
-  bad_inside In ws ms m b os h e c = rw h
-  bad_inside Out ws ms m b os h e c = rw h
-  bad_inside True ws ms m b os h e c = rw h
-  bad_inside False ws ms m b os h e c = rw h
-  bad_inside (Name x) ws ms m b os h e c = rw h
-  bad_inside (Strange y) ws ms m b os h e c = rw h
-  bad_inside End ws ms m b os h e c = rw h
+  bad_inside w ws ms m b os h e c = rw h
 
   -- a word behind the whole rule is refused
   bad_end : (w : Word) (ws ms : List Said) (m : ℕ) → Heads (told w) ws ms → Ends rule ws → (w ≡ End → ⊥) → run known (done m []) ws ≡ stops (number_of w) ws
-  bad_end Next ws ms m h e c = rw h
-  bad_end Always ws ms m h e c = rw h
   bad_end Release ws ms m h e c = absurd (e.2 _ h)
-  bad_end Until ws ms m h e c = rw h
-  bad_end Finally ws ms m h e c = rw h
   bad_end And ws ms m h e c = absurd (e.0 _ h)
   bad_end Or ws ms m h e c = absurd (e.1 _ h)
-  bad_end Not ws ms m h e c = rw h
-  bad_end Open ws ms m h e c = rw h
-  bad_end Close ws ms m h e c = rw h
-  bad_end In ws ms m h e c = rw h
-  bad_end Out ws ms m h e c = rw h
-  bad_end True ws ms m h e c = rw h
-  bad_end False ws ms m h e c = rw h
-  bad_end (Name x) ws ms m h e c = rw h
-  bad_end (Strange y) ws ms m h e c = rw h
   bad_end End ws ms m h e c = absurd (c refl)
+  bad_end w ws ms m h e c = rw h
 
 module _ (src : Source) where
   -- a unit of one word
-  pub leaf_comes : (table : List Part) {after : List Part} {s : Said} (p : ℕ) (t : Token) (n : ℕ) (number : Option ℕ) (f : Rule) (x : Part) → Peek (text_of src) p t → Moves (length (text_of src)) p t → told t.word ≡ Some s
+  pub leaf_comes : {table after : List Part} {s : Said} {p : ℕ} {t : Token} {n : ℕ} {number : Option ℕ} (f : Rule) (x : Part) → Peek (text_of src) p t → Moves (length (text_of src)) p t → told t.word ≡ Some s
       → ((ws : List Said) → Derives (names_of src) unit n (s ∷ ws) f ws) → parts_on table f ≡ enter table x
       → Numbered after number (enter table x) → Comes src unit n p table after (Ok (record { number = number; at = t.next }))
-  leaf_comes table p t n number f x k m i d is e = (
+  leaf_comes {table} {t = t} {n = n} f x k m i d is e = (
     record {
       said_rule = f;
-      derives = subst (λ ws. Derives (names_of src) unit n ws f (saids (text_of src) t.next)) (sym (says (text_of src) p t k i)) (d (saids (text_of src) t.next));
-      passed = past_one (text_of src) p t k m i;
+      derives = subst (λ ws. Derives (names_of src) unit n ws f (saids (text_of src) t.next)) (sym (says k i)) (d (saids (text_of src) t.next));
+      passed = past_one k m i;
       entered = leaf_enters table f x is e;
     },
     tt,
@@ -235,40 +163,40 @@ module _ (src : Source) where
   unknown_named : (b : ℕ) (os : List ℕ) (x : List ℕ) (ms : List Said) → names_of src x ≡ None → run (names_of src) (named b os) (name' x ∷ ms) ≡ stops 5 (name' x ∷ ms)
   unknown_named b os x ms e = rw (e, run)
 
-  module _ (p : ℕ) (t : Token) (k : Peek (text_of src) p t) (m : Moves (length (text_of src)) p t) where
+  module _ {p : ℕ} {t : Token} (k : Peek (text_of src) p t) (m : Moves (length (text_of src)) p t) where
     -- where the table stops at this very word
     here : {s : Said} {u : State} {e : Refusal} (j : ℕ) → told t.word ≡ Some s → ((ms : List Said) → run (names_of src) u (s ∷ ms) ≡ stops j (s ∷ ms)) → refusals.number e ≡ j → refusals.place e ≡ t.at → Stops (names_of src) u (text_of src) p e
     here {u = u} j i h =
-        let y = says (text_of src) p t k i in
-        stops_at (text_of src) p t k (ap (run (names_of src) u) y ∙ h (saids (text_of src) t.next) ∙ ap (stops j) (sym y))
+        let y = says k i in
+        stops_at k (ap (run (names_of src) u) y ∙ h (saids (text_of src) t.next) ∙ ap (stops j) (sym y))
 
     -- a name
-    pub name_comes : (table after : List Part) (n : ℕ) (x : List ℕ) → told t.word ≡ Some (name' x) → (r : Result Found Refusal)
+    pub name_comes : (table after : List Part) (n : ℕ) {x : List ℕ} → told t.word ≡ Some (name' x) → (r : Result Found Refusal)
         → LiteralComes src x true t table after r → Comes src unit n p table after r
-    name_comes table after n x i (Ok r) h = (
+    name_comes table after n i (Ok r) h = (
       record {
         said_rule = literal h.0 true;
-        derives = subst₂ (λ ws rest. Derives (names_of src) unit n ws (literal h.0 true) rest) (sym (says (text_of src) p t k i)) (ap (saids (text_of src)) (sym h.2)) (unit_name h.1);
-        passed = subst (Passed (text_of src) p) (sym h.2) (past_one (text_of src) p t k m i);
+        derives = subst₂ (λ ws rest. Derives (names_of src) unit n ws (literal h.0 true) rest) (sym (says k i)) (ap (saids (text_of src)) (sym h.2)) (unit_name h.1);
+        passed = subst (Passed (text_of src) p) (sym h.2) (past_one k m i);
         entered = h.3;
       },
       tt,
     )
-    name_comes table after n x i (Err e) h = λ b os. here 5 i (λ ms. unknown_due n b os x ms h.0) (ap refusals.number h.1) (ap refusals.place h.1)
+    name_comes table after n {x} i (Err e) h = λ b os. here 5 i (λ ms. unknown_due n b os x ms h.0) (ap refusals.number h.1) (ap refusals.place h.1)
 
     -- the name behind a `!`
-    pub named_comes : (table after : List Part) (x : List ℕ) → told t.word ≡ Some (name' x) → (r : Result Found Refusal)
+    pub named_comes : (table after : List Part) {x : List ℕ} → told t.word ≡ Some (name' x) → (r : Result Found Refusal)
         → LiteralComes src x false t table after r → NotComes src p table after r
-    named_comes table after x i (Ok r) h = λ n. record {
+    named_comes table after i (Ok r) h = λ n. record {
       said_rule = literal h.0 false;
-      derives = subst₂ (λ ws rest. Derives (names_of src) unit n (not' ∷ ws) (literal h.0 false) rest) (sym (says (text_of src) p t k i)) (ap (saids (text_of src)) (sym h.2)) (unit_not h.1);
-      passed = subst (Passed (text_of src) p) (sym h.2) (past_one (text_of src) p t k m i);
+      derives = subst₂ (λ ws rest. Derives (names_of src) unit n (not' ∷ ws) (literal h.0 false) rest) (sym (says k i)) (ap (saids (text_of src)) (sym h.2)) (unit_not h.1);
+      passed = subst (Passed (text_of src) p) (sym h.2) (past_one k m i);
       entered = h.3;
     }
-    named_comes table after x i (Err e) h = λ b os. here 5 i (λ ms. unknown_named b os x ms h.0) (ap refusals.number h.1) (ap refusals.place h.1)
+    named_comes table after {x} i (Err e) h = λ b os. here 5 i (λ ms. unknown_named b os x ms h.0) (ap refusals.number h.1) (ap refusals.place h.1)
 
     pub unnamed : {e : Refusal} → Refuses t.word t.at e → ((x : _) → t.word ≡ Name x → ⊥) → (b : ℕ) (os : List ℕ) → Stops (names_of src) (named b os) (text_of src) p e
-    unnamed h x b os = stops_at (text_of src) p t k (bad_named (names_of src) t.word _ _ b os (heads (text_of src) p t k) x) h.number_is h.place_is
+    unnamed h x b os = stops_at k (bad_named (names_of src) t.word _ _ b os (heads k) x) h.number_is h.place_is
 
     -- a `!` and what is behind it
     pub not_comes : (table after : List Part) (n : ℕ) → told t.word ≡ Some not' → (r : Result Found Refusal) → NotComes src t.next table after r → Comes src unit n p table after r
@@ -276,166 +204,163 @@ module _ (src : Source) where
         let g = h n in (
           record {
             said_rule = g.said_rule;
-            derives = subst (λ ws. Derives (names_of src) unit n ws g.said_rule (saids (text_of src) r.at)) (sym (says (text_of src) p t k i)) g.derives;
-            passed = then (past_one (text_of src) p t k m i) g.passed;
+            derives = subst (λ ws. Derives (names_of src) unit n ws g.said_rule (saids (text_of src) r.at)) (sym (says k i)) g.derives;
+            passed = then (past_one k m i) g.passed;
             entered = g.entered;
           },
           tt,
         )
-    not_comes table after n i (Err e) h = λ b os. stops_later (past_one (text_of src) p t k m i) (ap (run (names_of src) (due n b os)) (says (text_of src) p t k i)) (h b os)
+    not_comes table after n i (Err e) h = λ b os. stops_later (past_one k m i) (ap (run (names_of src) (due n b os)) (says k i)) (h b os)
 
     -- a word that begins no unit
-    pub no_unit : (n : ℕ) {e : Refusal} → Refuses t.word t.at e → (t.word ≡ True → ⊥) → (t.word ≡ False → ⊥) → ((x : _) → t.word ≡ Name x → ⊥) → (t.word ≡ Not → ⊥) → (t.word ≡ Next → ⊥) → (t.word ≡ Always → ⊥) → (t.word ≡ Open → ⊥)
+    pub no_unit : {n : ℕ} {e : Refusal} → Refuses t.word t.at e → (t.word ≡ True → ⊥) → (t.word ≡ False → ⊥) → ((x : _) → t.word ≡ Name x → ⊥) → (t.word ≡ Not → ⊥) → (t.word ≡ Next → ⊥) → (t.word ≡ Always → ⊥) → (t.word ≡ Open → ⊥)
         → Wrong (names_of src) unit n (text_of src) p e
-    no_unit n h a b' c d e' f g b os = stops_at (text_of src) p t k (bad_due (names_of src) t.word _ _ n b os (heads (text_of src) p t k) a b' c d e' f g) h.number_is h.place_is
+    no_unit {n} h a b' c d e' f g b os = stops_at k (bad_due (names_of src) t.word _ _ n b os (heads k) a b' c d e' f g) h.number_is h.place_is
 
     -- a word that takes a level, and none is left
-    pub too_deep : {s : Said} {e : Refusal} (n : ℕ) → told t.word ≡ Some s → ((b : ℕ) (os : List ℕ) (ms : List Said) → run (names_of src) (due 0 b os) (s ∷ ms) ≡ stops 8 (s ∷ ms)) → n ≡ 0 → e ≡ TooDeep t.at → Wrong (names_of src) unit n (text_of src) p e
-    too_deep {s} n i h z x b os = here 8 i (λ ms. subst (λ j. run (names_of src) (due j b os) (s ∷ ms) ≡ stops 8 (s ∷ ms)) (sym z) (h b os ms)) (ap refusals.number x) (ap refusals.place x)
+    pub too_deep : {s : Said} {e : Refusal} {n : ℕ} → told t.word ≡ Some s → ((b : ℕ) (os : List ℕ) (ms : List Said) → run (names_of src) (due 0 b os) (s ∷ ms) ≡ stops 8 (s ∷ ms)) → n ≡ 0 → e ≡ TooDeep t.at → Wrong (names_of src) unit n (text_of src) p e
+    too_deep {s} i h z x b os = here 8 i (λ ms. subst (λ j. run (names_of src) (due j b os) (s ∷ ms) ≡ stops 8 (s ∷ ms)) (sym z) (h b os ms)) (ap refusals.number x) (ap refusals.place x)
 
     -- what is inside a word that takes a level is refused
-    pub level_wrong : {s : Said} {e : Refusal} (n j : ℕ) (u : ℕ → List ℕ → State) → told t.word ≡ Some s → n ≡ suc j → ((b : ℕ) (os : List ℕ) (ms : List Said) → run (names_of src) (due (suc j) b os) (s ∷ ms) ≡ run (names_of src) (u b os) ms)
+    pub level_wrong : {s : Said} {e : Refusal} {n j : ℕ} (u : ℕ → List ℕ → State) → told t.word ≡ Some s → n ≡ suc j → ((b : ℕ) (os : List ℕ) (ms : List Said) → run (names_of src) (due (suc j) b os) (s ∷ ms) ≡ run (names_of src) (u b os) ms)
         → ((b : ℕ) (os : List ℕ) → Stops (names_of src) (u b os) (text_of src) t.next e) → Wrong (names_of src) unit n (text_of src) p e
-    level_wrong n j u i z h g b os =
-        stops_later (past_one (text_of src) p t k m i)
-        (ap (λ d. run (names_of src) (due d b os) (saids (text_of src) p)) z ∙ ap (run (names_of src) (due (suc j) b os)) (says (text_of src) p t k i) ∙ h b os _)
+    level_wrong {j = j} u i z h g b os =
+        stops_later (past_one k m i)
+        (ap (λ d. run (names_of src) (due d b os) (saids (text_of src) p)) z ∙ ap (run (names_of src) (due (suc j) b os)) (says k i) ∙ h b os _)
         (g b os)
 
     -- X and a unit
-    pub next_comes : {table s after : List Part} {number : Option ℕ} (n j : ℕ) (q : Found) → told t.word ≡ Some X' → n ≡ suc j
+    pub next_comes : {table s after : List Part} {number : Option ℕ} {n j : ℕ} {q : Found} → told t.word ≡ Some X' → n ≡ suc j
         → Gives (text_of src) (Derives (names_of src) unit j (saids (text_of src) t.next)) t.next table s q
         → EntersPart s (one_side part.Next q.number) after number → Comes src unit n p table after (Ok (record { number = number; at = q.at }))
     unfolding parts_on
-    next_comes n j q i z g e = (
+    next_comes {q = q} i z g e = (
       record {
         said_rule = next g.said_rule;
-        derives = subst₂ (λ d ws. Derives (names_of src) unit d ws (next g.said_rule) (saids (text_of src) q.at)) (sym z) (sym (says (text_of src) p t k i)) (unit_next g.derives);
-        passed = then (past_one (text_of src) p t k m i) g.passed;
+        derives = subst₂ (λ d ws. Derives (names_of src) unit d ws (next g.said_rule) (saids (text_of src) q.at)) (sym z) (sym (says k i)) (unit_next g.derives);
+        passed = then (past_one k m i) g.passed;
         entered = one_enters _ g.said_rule (next g.said_rule) part.Next (λ ps. refl) g.entered e;
       },
       tt,
     )
 
     -- G and a unit
-    pub always_comes : (table : List Part) {s₀ s after : List Part} {never_number number : Option ℕ} (n j : ℕ) (q : Found) → told t.word ≡ Some G' → n ≡ suc j
+    pub always_comes : {table s₀ s after : List Part} {never_number number : Option ℕ} {n j : ℕ} {q : Found} → told t.word ≡ Some G' → n ≡ suc j
         → Numbered s₀ never_number (enter table part.False)
         → Gives (text_of src) (Derives (names_of src) unit j (saids (text_of src) t.next)) t.next s₀ s q
         → EntersPart s (two_sides part.Release never_number q.number) after number → Comes src unit n p table after (Ok (record { number = number; at = q.at }))
     unfolding parts_on
-    always_comes table n j q i z e₀ g e = (
+    always_comes {table} {q = q} i z e₀ g e = (
       record {
         said_rule = release never g.said_rule;
-        derives = subst₂ (λ d ws. Derives (names_of src) unit d ws (release never g.said_rule) (saids (text_of src) q.at)) (sym z) (sym (says (text_of src) p t k i)) (unit_always g.derives);
-        passed = then (past_one (text_of src) p t k m i) g.passed;
+        derives = subst₂ (λ d ws. Derives (names_of src) unit d ws (release never g.said_rule) (saids (text_of src) q.at)) (sym z) (sym (says k i)) (unit_always g.derives);
+        passed = then (past_one k m i) g.passed;
         entered = two_enter table never g.said_rule part.Release (release never g.said_rule) (λ ps. refl) (leaf_enters table never part.False refl e₀) g.entered e;
       },
       tt,
     )
 
     -- a rule in brackets
-    pub group_comes : {table after : List Part} (n j : ℕ) (q : Found) → told t.word ≡ Some open' → n ≡ suc j
+    pub group_comes : {table after : List Part} {n j : ℕ} {q : Found} → told t.word ≡ Some open' → n ≡ suc j
         → Comes src rule j t.next table after (Ok q) → (r : Result Found Refusal) → CloseComes src q r → Comes src unit n p table after r
-    group_comes {table} {after} n j q i z g (Ok r) h = (
+    group_comes {table} {after} {j = j} i z g (Ok r) h = (
       record {
         said_rule = g.0.said_rule;
-        derives = subst₂ (λ d ws. Derives (names_of src) unit d ws g.0.said_rule (saids (text_of src) r.at)) (sym z) (sym (says (text_of src) p t k i))
+        derives = subst₂ (λ d ws. Derives (names_of src) unit d ws g.0.said_rule (saids (text_of src) r.at)) (sym z) (sym (says k i))
             (unit_group (subst (Derives (names_of src) rule j (saids (text_of src) t.next) g.0.said_rule) h.0 g.0.derives));
-        passed = then (past_one (text_of src) p t k m i) (then g.0.passed h.1);
+        passed = then (past_one k m i) (then g.0.passed h.1);
         entered = subst (Enters table g.0.said_rule after) (sym h.2) g.0.entered;
       },
       tt,
     )
-    group_comes n j q i z g (Err e) h = λ b os.
+    group_comes {j = j} i z g (Err e) h = λ b os.
         let y = passes (names_of src) g.0.derives in
-        stops_later (then (past_one (text_of src) p t k m i) g.0.passed)
-        (ap (λ d. run (names_of src) (due d b os) (saids (text_of src) p)) z ∙ ap (run (names_of src) (due (suc j) b os)) (says (text_of src) p t k i) ∙ y.1 (b ∷ os))
+        stops_later (then (past_one k m i) g.0.passed)
+        (ap (λ d. run (names_of src) (due d b os) (saids (text_of src) p)) z ∙ ap (run (names_of src) (due (suc j) b os)) (says k i) ∙ y.1 (b ∷ os))
         (h g.1 y.0 b os)
 
-  module _ (f : Found) (t : Token) (k : Peek (text_of src) f.at t) (m : Moves (length (text_of src)) f.at t) where
+  module _ (f : Found) {t : Token} (k : Peek (text_of src) f.at t) (m : Moves (length (text_of src)) f.at t) where
     -- the bracket behind a rule, and any other word
     pub bracket : told t.word ≡ Some close' → CloseComes src f (Ok (record { number = f.number; at = t.next }))
-    bracket i = (says (text_of src) f.at t k i, past_one (text_of src) f.at t k m i, refl)
+    bracket i = (says k i, past_one k m i, refl)
 
     pub no_bracket : {e : Refusal} → Refuses t.word t.at e → (t.word ≡ Close → ⊥) → CloseComes src f (Err e)
-    no_bracket h c ends j b os = stops_at (text_of src) f.at t k (bad_inside (names_of src) t.word _ _ j b os (heads (text_of src) f.at t k) ends c) h.number_is h.place_is
+    no_bracket h c ends j b os = stops_at k (bad_inside (names_of src) t.word _ _ j b os (heads k) ends c) h.number_is h.place_is
 
-    -- the whole rule ends, or another word is refused
-    pub ends_here : t.word ≡ End → saids (text_of src) f.at ≡ []
-    ends_here e = subst (λ w. Heads (told w) (saids (text_of src) f.at) (saids (text_of src) t.next)) e (heads (text_of src) f.at t k)
-
+    -- behind the whole rule a word is refused
     pub no_end : {e : Refusal} → Refuses t.word t.at e → (t.word ≡ End → ⊥) → Ends rule (saids (text_of src) f.at) → (j : ℕ) → Stops (names_of src) (done j []) (text_of src) f.at e
-    no_end h c ends j = stops_at (text_of src) f.at t k (bad_end (names_of src) t.word _ _ j (heads (text_of src) f.at t k) ends c) h.number_is h.place_is
+    no_end h c ends j = stops_at k (bad_end (names_of src) t.word _ _ j (heads k) ends c) h.number_is h.place_is
 
     -- a join with one unit more
-    pub join_more : {ws : List Said} {p : ℕ} {table s s₁ after : List Part} {number : Option ℕ} (n : ℕ) (q : Found) → told t.word ≡ Some and' → Gives (text_of src) (Derives (names_of src) join n ws) p table s f
+    pub join_more : {ws : List Said} {p : ℕ} {table s s₁ after : List Part} {number : Option ℕ} {n : ℕ} {q : Found} → told t.word ≡ Some and' → Gives (text_of src) (Derives (names_of src) join n ws) p table s f
         → Gives (text_of src) (Derives (names_of src) unit n (saids (text_of src) t.next)) t.next s s₁ q
         → EntersPart s₁ (two_sides part.Both f.number q.number) after number
         → Gives (text_of src) (Derives (names_of src) join n ws) p table after (record { number = number; at = q.at })
     unfolding parts_on
-    join_more {ws = ws} n q i g h e = record {
+    join_more {ws} {n = n} i g h e = record {
       said_rule = both g.said_rule h.said_rule;
-      derives = join_and (subst (Derives (names_of src) join n ws g.said_rule) (says (text_of src) f.at t k i) g.derives) h.derives;
-      passed = then g.passed (then (past_one (text_of src) f.at t k m i) h.passed);
+      derives = join_and (subst (Derives (names_of src) join n ws g.said_rule) (says k i) g.derives) h.derives;
+      passed = then g.passed (then (past_one k m i) h.passed);
       entered = two_enter _ g.said_rule h.said_rule part.Both (both g.said_rule h.said_rule) (λ ps. refl) g.entered h.entered e;
     }
 
-    pub join_wrong : {p : ℕ} {table s : List Part} {e : Refusal} (n : ℕ) → told t.word ≡ Some and' → Gives (text_of src) (Derives (names_of src) join n (saids (text_of src) p)) p table s f
+    pub join_wrong : {p : ℕ} {table s : List Part} {e : Refusal} {n : ℕ} → told t.word ≡ Some and' → Gives (text_of src) (Derives (names_of src) join n (saids (text_of src) p)) p table s f
         → Wrong (names_of src) unit n (text_of src) t.next e → Wrong (names_of src) join n (text_of src) p e
-    join_wrong n i g h os =
-        stops_later (then g.passed (past_one (text_of src) f.at t k m i))
-        (passes (names_of src) g.derives os ∙ ap (run (names_of src) (done n os)) (says (text_of src) f.at t k i))
+    join_wrong {n = n} i g h os =
+        stops_later (then g.passed (past_one k m i))
+        (passes (names_of src) g.derives os ∙ ap (run (names_of src) (done n os)) (says k i))
         (h n os)
 
     -- a choice with one join more
-    pub choice_more : {ws : List Said} {p : ℕ} {table s s₁ after : List Part} {number : Option ℕ} (n : ℕ) (q : Found) → told t.word ≡ Some or' → Gives (text_of src) (Derives (names_of src) choice n ws) p table s f
+    pub choice_more : {ws : List Said} {p : ℕ} {table s s₁ after : List Part} {number : Option ℕ} {n : ℕ} {q : Found} → told t.word ≡ Some or' → Gives (text_of src) (Derives (names_of src) choice n ws) p table s f
         → Gives (text_of src) (Derives (names_of src) join n (saids (text_of src) t.next)) t.next s s₁ q
         → EntersPart s₁ (two_sides part.Either f.number q.number) after number
         → Gives (text_of src) (Derives (names_of src) choice n ws) p table after (record { number = number; at = q.at })
     unfolding parts_on
-    choice_more {ws = ws} n q i g h e = record {
+    choice_more {ws} {n = n} i g h e = record {
       said_rule = either g.said_rule h.said_rule;
-      derives = choice_or (subst (Derives (names_of src) choice n ws g.said_rule) (says (text_of src) f.at t k i) g.derives) h.derives;
-      passed = then g.passed (then (past_one (text_of src) f.at t k m i) h.passed);
+      derives = choice_or (subst (Derives (names_of src) choice n ws g.said_rule) (says k i) g.derives) h.derives;
+      passed = then g.passed (then (past_one k m i) h.passed);
       entered = two_enter _ g.said_rule h.said_rule part.Either (either g.said_rule h.said_rule) (λ ps. refl) g.entered h.entered e;
     }
 
-    pub choice_wrong : {p : ℕ} {table s : List Part} {e : Refusal} (n : ℕ) → told t.word ≡ Some or' → Gives (text_of src) (Derives (names_of src) choice n (saids (text_of src) p)) p table s f
+    pub choice_wrong : {p : ℕ} {table s : List Part} {e : Refusal} {n : ℕ} → told t.word ≡ Some or' → Gives (text_of src) (Derives (names_of src) choice n (saids (text_of src) p)) p table s f
         → Wrong (names_of src) join n (text_of src) t.next e → Wrong (names_of src) choice n (text_of src) p e
-    choice_wrong n i g h os =
-        stops_later (then g.passed (past_one (text_of src) f.at t k m i))
-        (passes (names_of src) g.derives os ∙ ap (run (names_of src) (done n os)) (says (text_of src) f.at t k i))
+    choice_wrong {n = n} i g h os =
+        stops_later (then g.passed (past_one k m i))
+        (passes (names_of src) g.derives os ∙ ap (run (names_of src) (done n os)) (says k i))
         (h os)
 
     -- a choice, `R` and a rule
-    pub release_comes : {p : ℕ} {table s s₁ after : List Part} {number : Option ℕ} (n j : ℕ) (q : Found) → told t.word ≡ Some R' → n ≡ suc j → Gives (text_of src) (Derives (names_of src) choice n (saids (text_of src) p)) p table s f
+    pub release_comes : {p : ℕ} {table s s₁ after : List Part} {number : Option ℕ} {n j : ℕ} {q : Found} → told t.word ≡ Some R' → n ≡ suc j → Gives (text_of src) (Derives (names_of src) choice n (saids (text_of src) p)) p table s f
         → Comes src rule j t.next s s₁ (Ok q)
         → EntersPart s₁ (two_sides part.Release f.number q.number) after number
         → Comes src rule n p table after (Ok (record { number = number; at = q.at }))
     unfolding parts_on
-    release_comes {p = p} n j q i z g h e = (
+    release_comes {p} {q = q} i z g h e = (
       record {
         said_rule = release g.said_rule h.0.said_rule;
         derives = subst (λ d. Derives (names_of src) rule d (saids (text_of src) p) (release g.said_rule h.0.said_rule) (saids (text_of src) q.at)) (sym z)
-            (rule_release (subst₂ (λ d ms. Derives (names_of src) choice d (saids (text_of src) p) g.said_rule ms) z (says (text_of src) f.at t k i) g.derives) h.0.derives);
-        passed = then g.passed (then (past_one (text_of src) f.at t k m i) h.0.passed);
+            (rule_release (subst₂ (λ d ms. Derives (names_of src) choice d (saids (text_of src) p) g.said_rule ms) z (says k i) g.derives) h.0.derives);
+        passed = then g.passed (then (past_one k m i) h.0.passed);
         entered = two_enter _ g.said_rule h.0.said_rule part.Release (release g.said_rule h.0.said_rule) (λ ps. refl) g.entered h.0.entered e;
       },
       h.1,
     )
 
-    pub release_wrong : {p : ℕ} {table s : List Part} {e : Refusal} (n j : ℕ) → told t.word ≡ Some R' → n ≡ suc j → Gives (text_of src) (Derives (names_of src) choice n (saids (text_of src) p)) p table s f
+    pub release_wrong : {p : ℕ} {table s : List Part} {e : Refusal} {n j : ℕ} → told t.word ≡ Some R' → n ≡ suc j → Gives (text_of src) (Derives (names_of src) choice n (saids (text_of src) p)) p table s f
         → Wrong (names_of src) rule j (text_of src) t.next e → Wrong (names_of src) rule n (text_of src) p e
-    release_wrong n j i z g h os =
-        stops_later (then g.passed (past_one (text_of src) f.at t k m i))
-        (passes (names_of src) g.derives os ∙ ap (λ d. run (names_of src) (done d os) (saids (text_of src) f.at)) z ∙ ap (run (names_of src) (done (suc j) os)) (says (text_of src) f.at t k i))
+    release_wrong {j = j} i z g h os =
+        stops_later (then g.passed (past_one k m i))
+        (passes (names_of src) g.derives os ∙ ap (λ d. run (names_of src) (done d os) (saids (text_of src) f.at)) z ∙ ap (run (names_of src) (done (suc j) os)) (says k i))
         (h os)
 
-    pub release_deep : {p : ℕ} {table s : List Part} {e : Refusal} (n : ℕ) → told t.word ≡ Some R' → n ≡ 0 → e ≡ TooDeep t.at → Gives (text_of src) (Derives (names_of src) choice n (saids (text_of src) p)) p table s f
+    pub release_deep : {p : ℕ} {table s : List Part} {e : Refusal} {n : ℕ} → told t.word ≡ Some R' → n ≡ 0 → e ≡ TooDeep t.at → Gives (text_of src) (Derives (names_of src) choice n (saids (text_of src) p)) p table s f
         → Wrong (names_of src) rule n (text_of src) p e
-    release_deep n i z x g os =
-        let y = says (text_of src) f.at t k i in
+    release_deep i z x g os =
+        let y = says k i in
         stops_later g.passed (passes (names_of src) g.derives os)
-        (stops_at (text_of src) f.at t k (ap (λ d. run (names_of src) (done d os) (saids (text_of src) f.at)) z ∙ ap (run (names_of src) (done 0 os)) y ∙ ap (stops 8) (sym y)) (ap refusals.number x) (ap refusals.place x))
+        (stops_at k (ap (λ d. run (names_of src) (done d os) (saids (text_of src) f.at)) z ∙ ap (run (names_of src) (done 0 os)) y ∙ ap (stops 8) (sym y)) (ap refusals.number x) (ap refusals.place x))
 
   -- what a `?` returns
   pub exits : (sort : Sort) (n p : ℕ) (table after : List Part) (r : Result Found Refusal) (x : Refusal) → IsErrAnd r (λ y. y ≡ x) → Wrong (names_of src) sort n (text_of src) p x → Comes src sort n p table after r

@@ -88,7 +88,7 @@ module _ (store : List Part) (used : ℕ) (x : Part) (few : used ≤ 64) (room :
       where
         new : (b : Bool) → Some k ≡ cond b (Some used) None → (ltb used (length store) ≡ b) → (k ≡ used) × (used < 64)
         new true h b = (cc, omega (arith, ltb-true used (length store) b))
-        new false h b = absurd (let z : ◌≡◌ {A = ℕ} 0 1 = cc in omega arith)
+        new false h b = cc
 
         go : (place (take used store) x < used) ⊎ (used ≤ place (take used store) x) → Numbered (take (register.used_after used r) after) (Some k) (enter (take used store) x)
         go (inl o) =
@@ -109,11 +109,11 @@ module _ (store : List Part) (used : ℕ) (x : Part) (few : used ≤ 64) (room :
     no_room e {now} = go (cases_lt (place (take used store) x) used)
       where
         full : (b : Bool) → None ≡ cond b (Some used) None → (ltb used (length store) ≡ b) → length store ≤ used
-        full true h b = absurd (let z : ◌≡◌ {A = ℕ} 0 1 = cc in omega arith)
+        full true h b = cc
         full false h b = ltb-false used (length store) b
 
         go : (place (take used store) x < used) ⊎ (used ≤ place (take used store) x) → Numbered now None (enter (take used store) x)
-        go (inl o) = absurd (let h : ◌≡◌ {A = Option ℕ} None (Some (place (take used store) x)) = sym e ∙ value ∙ (is_old o).0 in let z : ◌≡◌ {A = ℕ} 0 1 = cc in omega arith)
+        go (inl o) = cc (sym e ∙ value ∙ (is_old o).0)
         go (inr l) =
             let f = full (ltb used (length store)) (sym e ∙ value ∙ (is_new l).0) refl in
             let g = enter_new (take used store) x (omega (arith, as_long)) in

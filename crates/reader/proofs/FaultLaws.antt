@@ -1,5 +1,5 @@
 -- The words that the table refuses are those with a fault.
-use Rattle.std.proofs.Common.{◌≡◌, ℕ, zero, suc, ◌+◌, ◌-◌, ◌≤◌, Bool, true, false, List, [], ◌∷◌, ◌++◌, length, None, sym, refl, ap, ◌∙◌, subst, append_assoc, append-nil, arith}
+use Rattle.std.proofs.Common.{◌≡◌, ℕ, zero, suc, ◌+◌, ◌-◌, ◌≤◌, true, false, List, [], ◌∷◌, ◌++◌, length, None, sym, refl, ap, ◌∙◌, subst, append_assoc, append-nil, arith}
 use Rattle.words.specs.Words.{Said, U', F', name', strange'}
 use Rattle.rules.specs.declared.part.Signal.TheVariants.{Input}
 use Rattle.rules.specs.Rule.{Rule}
@@ -52,19 +52,8 @@ abbrev lifts : ℕ → State → State
 lifts zero s = s
 lifts (suc d) s = lift (lifts d s)
 
-abbrev is_move : Step → Type 0
-is_move (moves s) = Unit {0}
-is_move (refused k) = ⊥
-
 halts : {e : Step} {s : State} {k : ℕ} → e ≡ moves s → e ≡ refused k → ⊥
-halts h i = subst is_move (sym h ∙ i) tt
-
-abbrev Yes : Bool → Type 0
-Yes true = Unit {0}
-Yes false = ⊥
-
-clash : {b : Bool} → b ≡ true → b ≡ false → ⊥
-clash h k = subst Yes k (subst Yes (sym h) tt)
+halts h i = cc
 
 abbrev up_step : Step → Step
 up_step (moves x) = moves (lift x)
@@ -76,12 +65,7 @@ moved known s w q h = go (why known s w) h
   where
     go : {v : Said} {e : Step} → Why known s v e → e ≡ moves q → (step free s v ≡ moves q) × (step free (lift s) v ≡ moves (lift q))
     go (table.fine {q = p} a b) h = (a ∙ h, b ∙ ap up_step h)
-    go table.strange h = absurd (halts h refl)
-    go (table.misplaced a b c d) h = absurd (halts h refl)
-    go (table.unknown p a b) h = absurd (halts h refl)
-    go table.until h = absurd (halts h refl)
-    go table.finally h = absurd (halts h refl)
-    go (table.deep p a b c d e) h = absurd (halts h refl)
+    go y h = cc
 
 free_walk : {known : Names} {s q : State} {ws : List Said} → Walks known s ws q → Walks free s ws q
 free_walk here = here
@@ -126,40 +110,26 @@ module _ (known : Names) where
 module _ (known : Names) (n : ℕ) (ws : List Said) where
   low2 : {w : Said} {j : ℕ} → Fault known n ws w j → 2 ≤ j
   low2 faults.strange = omega arith
-  low2 (faults.misplaced a b) = omega arith
-  low2 (faults.unknown a) = omega arith
-  low2 faults.until = omega arith
-  low2 faults.finally = omega arith
-  low2 (faults.deep a) = omega arith
+  low2 f = omega arith
 
   low3 : {w : Said} {j : ℕ} → Fault known n ws w j → strange_word w ≡ false → 3 ≤ j
-  low3 faults.strange h = absurd (clash refl h)
-  low3 (faults.misplaced a b) h = omega arith
-  low3 (faults.unknown a) h = omega arith
-  low3 faults.until h = omega arith
-  low3 faults.finally h = omega arith
-  low3 (faults.deep a) h = omega arith
+  low3 faults.strange h = cc
+  low3 f h = omega arith
 
   low5 : {x : List ℕ} {j : ℕ} → Fault known n ws (name' x) j → Begins n (ws ++ (name' x ∷ [])) → 5 ≤ j
   low5 (faults.misplaced a b) h = absurd (b n h)
-  low5 (faults.unknown a) h = omega arith
-  low5 (faults.deep a) h = omega arith
+  low5 f h = omega arith
 
   low7 : {w : Said} {j : ℕ} → Fault known n ws w j → foreign w ≡ true → strange_word w ≡ false → name_word w ≡ false → 7 ≤ j
-  low7 faults.strange h i l = absurd (clash refl i)
-  low7 (faults.misplaced a b) h i l = absurd (clash h a)
-  low7 (faults.unknown a) h i l = absurd (clash refl l)
-  low7 faults.until h i l = omega arith
-  low7 faults.finally h i l = omega arith
-  low7 (faults.deep a) h i l = omega arith
+  low7 faults.strange h i l = cc
+  low7 (faults.misplaced a b) h i l = cc
+  low7 (faults.unknown a) h i l = cc
+  low7 f h i l = omega arith
 
   low8 : {w : Said} {j : ℕ} → Fault known n ws w j → foreign w ≡ false → strange_word w ≡ false → name_word w ≡ false → Begins (suc n) (ws ++ (w ∷ [])) → 8 ≤ j
-  low8 faults.strange h i l v = absurd (clash refl i)
   low8 (faults.misplaced a b) h i l v = absurd (b (suc n) v)
-  low8 (faults.unknown a) h i l v = absurd (clash refl l)
-  low8 faults.until h i l v = absurd (clash refl h)
-  low8 faults.finally h i l v = absurd (clash refl h)
   low8 (faults.deep a) h i l v = omega arith
+  low8 f h i l v = cc
 
   module _ (s : State) (i : Walks known (start n) ws s) where
     on : (w : Said) (q : State) → step free s w ≡ moves q → Begins n (ws ++ (w ∷ []))
@@ -178,7 +148,7 @@ module _ (known : Names) (n : ℕ) (ws : List Said) where
     nowhere w h m v = not_viable free w (lifts_walk m n (free_walk i)) (lifts_stay m s w h) (subst (λ z. Begins z (ws ++ (w ∷ []))) (up_swap n m) (wider_by n m (ws ++ (w ∷ [])) v))
 
     told_by : {w : Said} {e : Step} {k : ℕ} → Why known s w e → e ≡ refused k → Told known n ws w (number e)
-    told_by (table.fine a b) h = absurd (halts refl h)
+    told_by (table.fine a b) h = cc
     told_by table.strange h = (faults.strange, λ j f. low2 f)
     told_by (table.misplaced {w = w} a b c d) h = (faults.misplaced a (nowhere w c), λ j f. low3 f b)
     told_by (table.unknown {x = x} q a b) h = (faults.unknown a, λ j f. low5 f (on (name' x) q b))

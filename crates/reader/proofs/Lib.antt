@@ -1,4 +1,3 @@
-pub mod WordLaws
 pub mod TreeLaws
 pub mod PassLaws
 pub mod ReadLaws

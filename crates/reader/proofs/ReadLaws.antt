@@ -1,6 +1,6 @@
 -- Words derive a tree, or the machine stops.
 use Rattle.std.proofs.Common.{◌≡◌, ℕ, zero, suc, ◌<◌, true, false, List, [], ◌∷◌, length, Some, None, Option, refl, ◌∙◌, arith}
-use Rattle.words.specs.Words.{Said, X', G', R', U', F', and', or', not', open', close', in', out', true', false', name', strange'}
+use Rattle.words.specs.Words.{Said, X', G', R', U', F', and', or', not', open', close', true', false', name', strange'}
 use Rattle.rules.specs.declared.part.Signal.{Signal}
 use Rattle.rules.specs.Rule.{Rule, always, never, literal, next, release, both, either}
 use Rattle.reader.specs.Grammar.{Names, rule, choice, join, unit, Derives, rule_choice, rule_release, choice_join, choice_or, join_unit, join_and, unit_true, unit_false, unit_name, unit_not, unit_next, unit_always, unit_group, Reads}
@@ -39,21 +39,10 @@ module _ (known : Names) where
       go : (s : Option Signal) → known x ≡ s → AUnit n (not' ∷ name' x ∷ ws)
       go (Some s) e = got (literal s false) ws (unit_not e) (omega arith)
       go None e = bad 5 (name' x ∷ ws) (λ b os. rw (e, run))
-  A_not n (true' ∷ ws) = bad 3 (true' ∷ ws) (λ b os. refl)
-  A_not n (false' ∷ ws) = bad 3 (false' ∷ ws) (λ b os. refl)
-  A_not n (not' ∷ ws) = bad 3 (not' ∷ ws) (λ b os. refl)
-  A_not n (X' ∷ ws) = bad 3 (X' ∷ ws) (λ b os. refl)
-  A_not n (G' ∷ ws) = bad 3 (G' ∷ ws) (λ b os. refl)
-  A_not n (open' ∷ ws) = bad 3 (open' ∷ ws) (λ b os. refl)
-  A_not n (close' ∷ ws) = bad 3 (close' ∷ ws) (λ b os. refl)
-  A_not n (and' ∷ ws) = bad 3 (and' ∷ ws) (λ b os. refl)
-  A_not n (or' ∷ ws) = bad 3 (or' ∷ ws) (λ b os. refl)
-  A_not n (R' ∷ ws) = bad 3 (R' ∷ ws) (λ b os. refl)
-  A_not n (in' ∷ ws) = bad 3 (in' ∷ ws) (λ b os. refl)
-  A_not n (out' ∷ ws) = bad 3 (out' ∷ ws) (λ b os. refl)
   A_not n (U' ∷ ws) = bad 7 (U' ∷ ws) (λ b os. refl)
   A_not n (F' ∷ ws) = bad 7 (F' ∷ ws) (λ b os. refl)
   A_not n (strange' c ∷ ws) = bad 2 (strange' c ∷ ws) (λ b os. refl)
+  A_not n (w ∷ ws) = bad 3 (w ∷ ws) (λ b os. refl)
 
   -- a word that takes a level
   abbrev Deep : ℕ → Said → Type 0
@@ -69,15 +58,10 @@ module _ (known : Names) where
   unit_of n x g o (X' ∷ ws) = x ws
   unit_of n x g o (G' ∷ ws) = g ws
   unit_of n x g o (open' ∷ ws) = o ws
-  unit_of n x g o (close' ∷ ws) = bad 3 (close' ∷ ws) (λ b os. refl)
-  unit_of n x g o (and' ∷ ws) = bad 3 (and' ∷ ws) (λ b os. refl)
-  unit_of n x g o (or' ∷ ws) = bad 3 (or' ∷ ws) (λ b os. refl)
-  unit_of n x g o (R' ∷ ws) = bad 3 (R' ∷ ws) (λ b os. refl)
-  unit_of n x g o (in' ∷ ws) = bad 3 (in' ∷ ws) (λ b os. refl)
-  unit_of n x g o (out' ∷ ws) = bad 3 (out' ∷ ws) (λ b os. refl)
   unit_of n x g o (U' ∷ ws) = bad 7 (U' ∷ ws) (λ b os. refl)
   unit_of n x g o (F' ∷ ws) = bad 7 (F' ∷ ws) (λ b os. refl)
   unit_of n x g o (strange' c ∷ ws) = bad 2 (strange' c ∷ ws) (λ b os. refl)
+  unit_of n x g o (w ∷ ws) = bad 3 (w ∷ ws) (λ b os. refl)
 
   deep_next : (n : ℕ) → ((ws : List Said) → AUnit n ws) → Deep (suc n) X'
   deep_next n u ws = go (u ws)
@@ -142,18 +126,10 @@ module _ (known : Names) where
     loop (suc f) js (and' ∷ ms) t lt lw ah d = after_and f (loop f) js ms t (omega arith) (omega arith) ah d (u ms)
     loop (suc f) js (or' ∷ ms) t lt lw ah d = after_or f (loop f) js ms t (omega arith) (omega arith) ah d (u ms)
     loop (suc f) js (R' ∷ ms) t lt lw ah d = after_release f (loop f) js ms t (omega arith) (omega arith) ah d (beh ms)
-    loop (suc f) js (true' ∷ ms) t lt lw ah d = wrong 3 _ (true' ∷ ms) (ah t _ d).1 (λ os. refl)
-    loop (suc f) js (false' ∷ ms) t lt lw ah d = wrong 3 _ (false' ∷ ms) (ah t _ d).1 (λ os. refl)
-    loop (suc f) js (name' x ∷ ms) t lt lw ah d = wrong 3 _ (name' x ∷ ms) (ah t _ d).1 (λ os. refl)
-    loop (suc f) js (not' ∷ ms) t lt lw ah d = wrong 3 _ (not' ∷ ms) (ah t _ d).1 (λ os. refl)
-    loop (suc f) js (X' ∷ ms) t lt lw ah d = wrong 3 _ (X' ∷ ms) (ah t _ d).1 (λ os. refl)
-    loop (suc f) js (G' ∷ ms) t lt lw ah d = wrong 3 _ (G' ∷ ms) (ah t _ d).1 (λ os. refl)
-    loop (suc f) js (open' ∷ ms) t lt lw ah d = wrong 3 _ (open' ∷ ms) (ah t _ d).1 (λ os. refl)
-    loop (suc f) js (in' ∷ ms) t lt lw ah d = wrong 3 _ (in' ∷ ms) (ah t _ d).1 (λ os. refl)
-    loop (suc f) js (out' ∷ ms) t lt lw ah d = wrong 3 _ (out' ∷ ms) (ah t _ d).1 (λ os. refl)
     loop (suc f) js (U' ∷ ms) t lt lw ah d = wrong 7 _ (U' ∷ ms) (ah t _ d).1 (λ os. refl)
     loop (suc f) js (F' ∷ ms) t lt lw ah d = wrong 7 _ (F' ∷ ms) (ah t _ d).1 (λ os. refl)
     loop (suc f) js (strange' c ∷ ms) t lt lw ah d = wrong 2 _ (strange' c ∷ ms) (ah t _ d).1 (λ os. refl)
+    loop (suc f) js (w ∷ ms) t lt lw ah d = wrong 3 _ (w ∷ ms) (ah t _ d).1 (λ os. refl)
 
     rule_of : ARule n ws
     rule_of = go (u ws)

@@ -43,11 +43,11 @@ duties_counted : (ps : List Part) → duty_number ps (length ps) ≡ count_by is
 unfolding duty_number
 duties_counted ps = is_count_by (λ qs. duty_number qs (length qs)) is_duty refl (λ x qs. one_more (is_duty x) (duty_number qs (length qs))) ps
 
-module _ (f : Rule) (table parts : List Part) (root duties : ℕ) (entered : Enters [] f table (Some root)) (all : parts ≡ table) (counted : duties ≡ count_by is_duty parts) where
+module _ (f : Rule) {table parts : List Part} {root duties : ℕ} (entered : Enters [] f table (Some root)) (all : parts ≡ table) (counted : duties ≡ count_by is_duty parts) where
   -- the table and the root of a rule whose parts were entered
   table_is : Numbered table (Some root) (parts_of f) → (table ≡ (parts_of f).table) × (root ≡ (parts_of f).number)
   table_is (entries.all a n) = (a, cc)
-  table_is (entries.over n m) = absurd (let z : ◌≡◌ {A = ℕ} 0 1 = cc in omega arith)
+  table_is (entries.over n m) = cc
 
   duties_are : duties ≡ duties_in f
   duties_are = counted ∙ ap (count_by is_duty) (all ∙ (table_is entered).0) ∙ sym (duties_counted (parts_of f).table)
@@ -62,9 +62,9 @@ module _ (f : Rule) (table parts : List Part) (root duties : ℕ) (entered : Ent
   large l = (λ s. omega (arith, s.duties, duties_are), refl)
 
 -- what is left in the store of a rule that is served: its table, copied over zero entries
-pub leaves : (known : Names) (text : List ℕ) (room : ℕ) (table copied parts zeros : List Part) (r : Reading) (f : Rule) → 64 ≤ room → RuleText known text (tree f) → Sized table f (Ok r)
+pub leaves : {known : Names} {text : List ℕ} {room : ℕ} {table copied parts zeros : List Part} {r : Reading} {f : Rule} → 64 ≤ room → RuleText known text (tree f) → Sized table f (Ok r)
     → copied ≡ parts → parts ≡ table → zeros ≡ replicate room True → Served known text (copied ++ drop (length parts) zeros) r
-leaves known text room table copied parts zeros r f l is s a b z =
+leaves {room = room} {copied = copied} {parts} {zeros} {f = f} l is s a b z =
     let t : parts ≡ (parts_of f).table = b ∙ s.4 in
     let n : length parts ≡ parts_in f = ap length t in
     let rest : drop (length parts) zeros ≡ replicate (room - parts_in f) True = ap₂ drop n z ∙ drop-replicate (parts_in f) room True in
@@ -82,15 +82,15 @@ leaves known text room table copied parts zeros r f l is s a b z =
     }
 
 -- a store that was cleared is zero
-pub zeros : (store after : List Part) → after ≡ replicate (length store) True → after ≡ replicate (length after) True
-zeros store after e = e ∙ ap (λ n. replicate n True) (sym (ap length e ∙ length-replicate (length store) True))
+pub zeros : (store : List Part) {after : List Part} → after ≡ replicate (length store) True → after ≡ replicate (length after) True
+zeros store e = e ∙ ap (λ n. replicate n True) (sym (ap length e ∙ length-replicate (length store) True))
 
 -- a text that is refused, and a store that was cleared
-pub refused : (known : Names) (text : List ℕ) (store after : List Part) (r : Result Reading Refusal) (x : Refusal) → IsErrAnd r (λ y. y ≡ x) → RuleText known text (refusal (refusals.number x) (refusals.place x))
+pub refused : {known : Names} {text : List ℕ} (store : List Part) {after : List Part} (r : Result Reading Refusal) (x : Refusal) → IsErrAnd r (λ y. y ≡ x) → RuleText known text (refusal (refusals.number x) (refusals.place x))
     → after ≡ replicate (length store) True → ReadRule known text after r
-refused known text store after (Ok y) x h w z = absurd h
-refused known text store after (Err y) x h w z = (subst (λ e. RuleText known text (refusal (refusals.number e) (refusals.place e))) (sym h) w, zeros store after z)
+refused store (Ok y) x h w z = absurd h
+refused {known} {text} store (Err y) x h w z = (subst (λ e. RuleText known text (refusal (refusals.number e) (refusals.place e))) (sym h) w, zeros store z)
 
 -- a rule that reads and is not measured is too large
-pub too_large : (known : Names) (text : List ℕ) (f : Rule) (e : Refusal) (table : List Part) → length text ≤ 1024 → Reads known 32 (saids text 0) f → Sized table f (Err e) → RuleText known text (refusal (refusals.number e) (refusals.place e))
-too_large known text f e table h d s = subst (λ x. RuleText known text (refusal (refusals.number x) (refusals.place x))) (sym s.1) (large_text known text f h d s.0)
+pub too_large : {known : Names} {text : List ℕ} (f : Rule) (e : Refusal) (table : List Part) → length text ≤ 1024 → Reads known 32 (saids text 0) f → Sized table f (Err e) → RuleText known text (refusal (refusals.number e) (refusals.place e))
+too_large {known} {text} f e table h d s = subst (λ x. RuleText known text (refusal (refusals.number x) (refusals.place x))) (sym s.1) (large_text known text f h d s.0)

@@ -1,49 +1,18 @@
 -- Every text has words, and comes to one thing.
-use Rattle.std.proofs.Common.{◌≡◌, ℕ, zero, suc, ◌+◌, ◌-◌, ◌≤◌, Bool, true, false, List, [], ◌∷◌, ◌++◌, map, length, get_or, take, drop, sym, refl, ap, ◌∙◌, subst, ap₂, arith, length-append, length-drop, length-take-le}
+use Rattle.std.proofs.Common.{◌≡◌, ℕ, ◌-◌, ◌≤◌, List, [], ◌∷◌, ◌++◌, map, length, get_or, sym, refl, ap, ◌∙◌, subst, ap₂, arith, length-append}
 use native.Mathlib.Decide.{dec_le}
-use Rattle.std.specs.List.{prefix_len}
-use Rattle.std.proofs.lemmas.List.Sums.{prefix_len-le-length}
 use Rattle.terms.specs.declared.refusal.Refusal.{Refusal}
 use Rattle.terms.specs.Refusals as refusals
-use Rattle.words.specs.Words.{Placed, said, place, Kind, blank, letter, other, kind, goes_on, Run, ends, stops, more, Words, none, gap, one, long, words_in, words_from}
+use Rattle.words.specs.Words.{Placed, said, place, Words, words_from}
+use Rattle.words.proofs.WordLaws.{words_one, words_all}
 use Rattle.rules.specs.Rule.{Rule}
 use Rattle.reader.specs.Grammar.{Names, Reads}
 use Rattle.reader.specs.Allowed.{start}
 use Rattle.reader.specs.Faults.{Answer, tree, refusal, Outcome, reads}
 use Rattle.reader.specs.Steps.{saids, first_place, Stops}
 use Rattle.reader.specs.Texts.{Small, parts_in, duties_in, RuleText, too_long, refused, too_large, served}
-use Rattle.reader.proofs.WordLaws.{words_one}
-use Rattle.reader.proofs.ScanLaws.{in_blank, in_letter, in_other, in_none}
 use Rattle.reader.proofs.AnswerLaws.{by_run, answers}
 use Rattle.reader.proofs.FaultLaws.{outcome_one}
-
--- the run of letters and digits that bytes begin with
-run_of : (bs : List ℕ) → Run bs (take (prefix_len goes_on bs) bs) (drop (prefix_len goes_on bs) bs)
-run_of [] = ends
-run_of (b ∷ bs) = go (goes_on b) refl (run_of bs)
-  where
-    go : (g : Bool) → goes_on b ≡ g → Run bs (take (prefix_len goes_on bs) bs) (drop (prefix_len goes_on bs) bs) → Run (b ∷ bs) (take (prefix_len goes_on (b ∷ bs)) (b ∷ bs)) (drop (prefix_len goes_on (b ∷ bs)) (b ∷ bs))
-    go true h i = let k : 1 + prefix_len goes_on bs ≡ suc (prefix_len goes_on bs) = omega arith in rw (h, k) (more h i)
-    go false h i = rw h (stops h)
-
--- the computed words are the words
-words_are : (n p : ℕ) (bs : List ℕ) → length bs ≤ n → Words p bs (words_in n p bs)
-words_are n p [] h = subst (Words p []) (sym (in_none n p)) none
-words_are zero p (b ∷ bs) h = absurd (omega arith)
-words_are (suc n) p (b ∷ bs) h = go (kind b) refl (words_are n)
-  where
-    go : (k : Kind) → kind b ≡ k → ((q : ℕ) (cs : List ℕ) → length cs ≤ n → Words q cs (words_in n q cs)) → Words p (b ∷ bs) (words_in (suc n) p (b ∷ bs))
-    go blank e i = subst (Words p (b ∷ bs)) (sym (in_blank n p b bs e)) (gap e (i (suc p) bs (omega arith)))
-    go letter e i =
-        let k = prefix_len goes_on bs in
-        let l : length (take k bs) ≡ k = length-take-le k bs (prefix_len-le-length goes_on bs) in
-        subst (Words p (b ∷ bs)) (sym (in_letter n p b bs e))
-        (long e (run_of bs) (subst (λ m. Words m (drop k bs) (words_in n (suc p + k) (drop k bs))) (ap (λ m. suc p + m) (sym l)) (i (suc p + k) (drop k bs) (omega (arith, length-drop k bs)))))
-    go other e i = subst (Words p (b ∷ bs)) (sym (in_other n p b bs e)) (one e (i (suc p) bs (omega arith)))
-
-pub words_of : (text : List ℕ) → Words 0 text (words_from text 0)
-unfolding words_from
-words_of text = words_are (length text) 0 text (omega arith)
 
 -- a rule fits or not
 small_or : (f : Rule) → Dec (Small f)
@@ -64,9 +33,6 @@ module _ (known : Names) (text : List ℕ) where
       let c = outcome_one known 32 (map said u) in
       (same, sym (c.2 a q) ∙ c.2 b p)
 
-  no_tree : {f : Rule} {k i : ℕ} → refusal k i ≡ tree f → ⊥
-  no_tree e = let z : ◌≡◌ {A = ℕ} 0 1 = cc in omega arith
-
   tree_same : {f g : Rule} → tree f ≡ tree g → f ≡ g
   tree_same e = cc
 
@@ -82,25 +48,25 @@ module _ (known : Names) (text : List ℕ) where
   text_same (too_long h) (served i w o s) = absurd (omega arith)
   text_same (refused i w o) (too_long h) = absurd (omega arith)
   text_same (refused i w o) (refused j x p) = let c = same_outcome w x o p in ap₂ at_place c.0 c.1
-  text_same (refused i w o) (too_large j x p l) = absurd (no_tree (same_outcome w x o p).1)
-  text_same (refused i w o) (served j x p s) = absurd (no_tree (same_outcome w x o p).1)
+  text_same (refused i w o) (too_large j x p l) = cc ((same_outcome w x o p).1)
+  text_same (refused i w o) (served j x p s) = cc ((same_outcome w x o p).1)
   text_same (too_large i w o l) (too_long h) = absurd (omega arith)
-  text_same (too_large i w o l) (refused j x p) = absurd (no_tree (sym (same_outcome w x o p).1))
+  text_same (too_large i w o l) (refused j x p) = cc ((same_outcome w x o p).1)
   text_same (too_large i w o l) (too_large j x p m) = refl
   text_same (too_large i w o l) (served j x p s) = absurd (l (subst Small (sym (tree_same (same_outcome w x o p).1)) s))
   text_same (served i w o s) (too_long h) = absurd (omega arith)
-  text_same (served i w o s) (refused j x p) = absurd (no_tree (sym (same_outcome w x o p).1))
+  text_same (served i w o s) (refused j x p) = cc ((same_outcome w x o p).1)
   text_same (served i w o s) (too_large j x p l) = absurd (l (subst Small (tree_same (same_outcome w x o p).1) s))
   text_same (served i w o s) (served j x p r) = (same_outcome w x o p).1
 
   -- words come to something, and so does the text
   from_outcome : length text ≤ 1024 → (a : Answer) → Outcome known 32 (map said (words_from text 0)) a → (b : Answer) × RuleText known text b
-  from_outcome h (refusal k i) o = (_, refused h (words_of text) o)
+  from_outcome h (refusal k i) o = (_, refused h (words_all text) o)
   from_outcome h (tree f) o = go (small_or f)
     where
       go : Dec (Small f) → (b : Answer) × RuleText known text b
-      go (yes s) = (tree f, served h (words_of text) o s)
-      go (no l) = (refusal 9 0, too_large h (words_of text) o l)
+      go (yes s) = (tree f, served h (words_all text) o s)
+      go (no l) = (refusal 9 0, too_large h (words_all text) o l)
 
   some_answer : (b : Answer) × RuleText known text b
   some_answer = go (dec_le (length text) 1024)
@@ -130,11 +96,11 @@ module _ (known : Names) (text : List ℕ) where
       let many : length (map said ws) - length (map said rest) ≡ length s.words = omega (arith, said_many ws, said_many rest, ap length s.are, length-append s.words rest) in
       let o : Outcome known 32 (map said ws) (refusal (refusals.number e) (length s.words)) = subst (Outcome known 32 (map said ws)) (ap (by_run known (map said ws)) s.stop ∙ ap (refusal (refusals.number e)) many) (answers known 32 (map said ws)) in
       let p : get_or (map place ws) (length s.words) (length text) ≡ refusals.place e = ap (λ l. get_or (map place l) (length s.words) (length text)) s.are ∙ behind s.words rest (length text) ∙ sym s.place_is in
-      subst (λ q. RuleText known text (refusal (refusals.number e) q)) p (refused h (words_of text) o)
+      subst (λ q. RuleText known text (refusal (refusals.number e) q)) p (refused h (words_all text) o)
 
   -- words that read are served, or too large
   pub reads_text : (f : Rule) → length text ≤ 1024 → Reads known 32 (saids text 0) f → Small f → RuleText known text (tree f)
-  reads_text f h d s = served h (words_of text) (reads d) s
+  reads_text f h d s = served h (words_all text) (reads d) s
 
   pub large_text : (f : Rule) → length text ≤ 1024 → Reads known 32 (saids text 0) f → (Small f → ⊥) → RuleText known text (refusal 9 0)
-  large_text f h d l = too_large h (words_of text) (reads d) l
+  large_text f h d l = too_large h (words_all text) (reads d) l

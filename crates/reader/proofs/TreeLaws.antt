@@ -1,6 +1,6 @@
 -- Words have one tree: a machine over the words that computes it.
 use Rattle.std.proofs.Common.{◌≡◌, ℕ, true, false, List, [], ◌∷◌, Some, None, Option, sym, refl, ap, ◌∙◌}
-use Rattle.words.specs.Words.{Said, X', G', R', U', F', and', or', not', open', close', in', out', true', false', name', strange'}
+use Rattle.words.specs.Words.{Said, X', G', R', and', or', not', open', close', true', false', name'}
 use Rattle.rules.specs.declared.part.Signal.{Signal}
 use Rattle.rules.specs.Rule.{Rule, always, never, literal, next, release, both, either}
 use Rattle.reader.specs.Grammar.{Names, Sort, rule, choice, join, unit, Derives, rule_choice, rule_release, choice_join, choice_or, join_unit, join_and, unit_true, unit_false, unit_name, unit_not, unit_next, unit_always, unit_group, Reads}
@@ -39,47 +39,14 @@ goes known (due c o r k) not' = named c o r k
 goes known (due c o r k) X' = due (λ t. c (next t)) o r k
 goes known (due c o r k) G' = due (λ t. c (release never t)) o r k
 goes known (due c o r k) open' = due same same same (in_rule c o r k)
-goes known (due c o r k) close' = lost
-goes known (due c o r k) and' = lost
-goes known (due c o r k) or' = lost
-goes known (due c o r k) R' = lost
-goes known (due c o r k) in' = lost
-goes known (due c o r k) out' = lost
-goes known (due c o r k) U' = lost
-goes known (due c o r k) F' = lost
-goes known (due c o r k) (strange' b) = lost
+goes known (due c o r k) w = lost
 goes known (named c o r k) (name' x) = if_known (known x) (λ s. done (c (literal s false)) o r k)
-goes known (named c o r k) true' = lost
-goes known (named c o r k) false' = lost
-goes known (named c o r k) not' = lost
-goes known (named c o r k) X' = lost
-goes known (named c o r k) G' = lost
-goes known (named c o r k) open' = lost
-goes known (named c o r k) close' = lost
-goes known (named c o r k) and' = lost
-goes known (named c o r k) or' = lost
-goes known (named c o r k) R' = lost
-goes known (named c o r k) in' = lost
-goes known (named c o r k) out' = lost
-goes known (named c o r k) U' = lost
-goes known (named c o r k) F' = lost
-goes known (named c o r k) (strange' b) = lost
+goes known (named c o r k) w = lost
 goes known (done t o r k) and' = due (both t) o r k
 goes known (done t o r k) or' = due same (either (o t)) r k
 goes known (done t o r k) R' = due same same (λ u. r (release (o t) u)) k
 goes known (done t o r k) close' = closed (r (o t)) k
-goes known (done t o r k) true' = lost
-goes known (done t o r k) false' = lost
-goes known (done t o r k) (name' x) = lost
-goes known (done t o r k) not' = lost
-goes known (done t o r k) X' = lost
-goes known (done t o r k) G' = lost
-goes known (done t o r k) open' = lost
-goes known (done t o r k) in' = lost
-goes known (done t o r k) out' = lost
-goes known (done t o r k) U' = lost
-goes known (done t o r k) F' = lost
-goes known (done t o r k) (strange' b) = lost
+goes known (done t o r k) w = lost
 goes known lost w = lost
 
 abbrev pub goes_all : Names → Stand → List Said → Stand

@@ -1,5 +1,5 @@
 -- What a signals text and the text of a rule come to, and what the stores then hold.
--- Roomy: the stores have room. zero-parts: a store of zero entries. Both: the four outcomes.
+-- Roomy: the stores have room. ZeroParts: a store of zero entries. Both: the four outcomes.
 use Rattle.std.specs.Prelude.{◌≡◌, ℕ, ◌<◌, ◌≤◌, ◌⊎◌, List, [], ◌++◌, length, replicate, Ok, Err, Result}
 use Rattle.terms.specs.declared.refusal.Refusal.{Refusal}
 use Rattle.terms.specs.declared.refusal.Refusal.TheVariants.{StoreTooShort}

@@ -1,6 +1,6 @@
 -- What each step of the reader gives.
 -- saids: what the words say from a place on. Passed: words were read. Stops: the reader's refusal is the table's.
--- Gives: a part of a rule was read, and its parts are in the store. Comes: one or the other.
+-- Gives: a part of a rule was read, and its parts are in the table. Comes: one or the other.
 use Rattle.std.specs.Prelude.{◌≡◌, ℕ, suc, ◌<◌, ◌≤◌, Bool, List, [], ◌∷◌, ◌++◌, map, length, Some, None, Ok, Err, Result, ◌≢◌}
 use Rattle.terms.specs.declared.refusal.Refusal.{Refusal}
 use Rattle.terms.specs.declared.refusal.Refusal.TheVariants.{UnknownName, TooDeep}

@@ -113,7 +113,7 @@ impl<'a> Source<'a> {
     }
 
     // true, false, a name, `!` and a name, X and a unit, G and a unit, or a rule in brackets.
-    // Kept: the four readers take a table, a place and the levels left apart, since each of the three goes on by itself.
+    // Kept: the four readers take a table, a place and the levels left apart, since place and levels go on by themselves.
     #[cycle(choice_join_rule_unit)]
     fn unit(&self, table: &mut Table, from: usize, depth: u8) -> Result<Found, Refusal>
         ensures { Comes self.now a_unit depth from table.old table.new result }
@@ -153,7 +153,8 @@ impl<'a> Source<'a> {
     }
 
     // Units with `&` between them, which groups from the left.
-    // Kept: one function for joins and choices would match on which it reads for its sides, its mark and its part.
+    // Kept: one function for joins and choices would match on which it reads for its sides, its mark and its part. The
+    // loops end at the first word that is no mark, which is where they return.
     #[cycle(choice_join_rule_unit)]
     fn join(&self, table: &mut Table, from: usize, depth: u8) -> Result<Found, Refusal>
         ensures { Comes self.now a_join depth from table.old table.new result }

@@ -77,6 +77,7 @@ impl Table {
     }
 
     // The number of the part that two sides make. There is none where a side has none.
+    // Kept: one side and two are two calls, since what makes the part takes one number or two.
     pub(crate) fn enter_two<F: FnOnce(u8, u8) -> Part + Drop>(
         &mut self,
         left: Option<u8>,

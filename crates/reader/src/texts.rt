@@ -12,6 +12,7 @@ use words::signals::{Signals, clear as clear_names, read_signals};
 const MOST_SIGNALS: usize = 8;
 
 // Which text a refusal is about; a store that is too short is refused before either is read.
+// Kept: no text is a case with a name, as what is said of refusals has three cases.
 #[derive(Clone, Copy, PartialEq, Eq, Debug)]
 pub enum Text {
     Neither,
@@ -54,6 +55,7 @@ pub fn read(
         text: Text::Signals,
         refusal,
     })?;
+    // Kept: the names are cleared behind a refusal.
     match read_rule(ruled, names, signals, parts) {
         Ok(rule) => Ok(Texts { signals, rule }),
         Err(refusal) => {

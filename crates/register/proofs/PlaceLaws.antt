@@ -1,6 +1,6 @@
 -- Where the first entry that passes no test stands, and what a register gives.
 use Rattle.std.proofs.Common.{◌≡◌, ℕ, zero, suc, ◌+◌, ◌<◌, ◌≤◌, Bool, true, false, cond, not, ltb, leb, ◌≢◌, ◌⊎◌, ◌↔◌, List, [], ◌∷◌, length, get_or, take, set, Some, None, Option, sym, refl, ap, ◌∙◌, subst, subst₂, inl, inr, arith, length-take-le, get_or-set_other, get_or-take, get_or-set_same}
-use Rattle.std.specs.List.{prefix_len}
+use Rattle.std.specs.List.{prefix_len, slice_range}
 use Rattle.std.proofs.lemmas.List.{length-set, set_past}
 use Rattle.std.proofs.lemmas.Bool.{cond-true, cond-false, lt-ltb, le-ltb, le-leb, cases_lt, not-true, not-false}
 use Rattle.std.proofs.lemmas.Bool.Decides.{same_from_decides}
@@ -92,8 +92,12 @@ module _ {E : Type 0} (same : E → E → Bool) where
           before = λ i d l. ap (same e) (get_or-take used xs i d (omega arith)) ∙ f.before i d l;
         }
 
+    -- what is found in the slice of the entries in use is found among the first
+    among : {o r : Option ℕ} (ys : List E) → ys ≡ slice_range xs 0 used → o ≡ found same e ys → o ≡ r → found same e (take used xs) ≡ r
+    among ys s h i = let t : take used xs ≡ ys = grind (arith, s, w) in ap (found same e) t ∙ sym h ∙ i
+
     -- what is found in use is the first of those
-    pub found_use : (k : ℕ) → found same e (take used xs) ≡ Some k → First same e used xs k
+    found_use : (k : ℕ) → found same e (take used xs) ≡ Some k → First same e used xs k
     found_use k h = in_use k ((found_first e (take used xs) k).0 h)
 
     -- the first of those has the number
@@ -101,7 +105,7 @@ module _ {E : Type 0} (same : E → E → Bool) where
     use_place k f = first_place e (take used xs) k (of_use k f)
 
     -- where nothing is found, the place is behind them all
-    pub none_place : found same e (take used xs) ≡ None → used ≤ place same e (take used xs)
+    none_place : found same e (take used xs) ≡ None → used ≤ place same e (take used xs)
     none_place h = go (cases_lt (place same e (take used xs)) used)
       where
         go : (place same e (take used xs) < used) ⊎ (used ≤ place same e (take used xs)) → used ≤ place same e (take used xs)
@@ -203,15 +207,24 @@ module _ {E : Type 0} (same : E → E → Bool) where
           apart = λ b. subst (λ m. Apart same m ys) (sym uses) (a b);
         }
 
-      pub full_entered : used ≡ length xs → used ≤ place same e (take used xs) → Entered same e used xs None xs
-      full_entered w h = none_entered None xs used (sym (number_full e used xs w h)) (sym (kept_full e used xs w h)) refl refl refl refl
+    -- where o is what was found in ys, the slice of the entries in use
+    module _ (reflexive : (x : E) → same x x ≡ true) {e : E} {used : ℕ} {xs ys : List E} {o : Option ℕ} (w : used ≤ length xs) (s : ys ≡ slice_range xs 0 used) (h : o ≡ found same e ys) where
+      -- none was found, and there is no room
+      pub full_entered : o ≡ None → used ≡ length xs → Entered same e used xs None xs
+      full_entered i f =
+          let p = none_place e used xs w (among e used xs w ys s h i) in
+          none_entered reflexive e used xs None xs used (sym (number_full e used xs f p)) (sym (kept_full e used xs f p)) refl refl refl refl
 
-      pub there_entered : used ≤ length xs → (k : ℕ) → First same e used xs k → Entered same e used xs (Some k) xs
-      there_entered w k f =
+      -- the entry at k was found
+      pub there_entered : {k : ℕ} → o ≡ Some k → Entered same e used xs (Some k) xs
+      there_entered {k} i =
+          let f = found_use e used xs w k (among e used xs w ys s h i) in
           let is = use_place e used xs w k f in
           let lt = f.within in
-          some_entered (Some k) xs used (sym (number_first e used xs k w f)) (sym (kept_there e used xs w (omega arith))) (cond-true _ _ _ (lt-ltb k used lt)) k refl w f (λ a. a)
+          some_entered reflexive e used xs (Some k) xs used (sym (number_first e used xs k w f)) (sym (kept_there e used xs w (omega arith))) (cond-true _ _ _ (lt-ltb k used lt)) k refl w f (λ a. a)
 
-      pub new_entered : used < length xs → used ≤ place same e (take used xs) → Entered same e used xs (Some used) (set xs used e)
-      new_entered w h =
-          some_entered _ (set xs used e) (used + 1) (sym (number_new e used xs w h)) (sym (kept_new e used xs w h)) (cond-false _ _ _ (le-ltb used used (omega arith))) used refl (rw (length-set xs used e) (omega arith)) (new_first reflexive e used xs w h) (apart_new e used xs w h)
+      -- none was found, and there is room
+      pub new_entered : o ≡ None → used < length xs → Entered same e used xs (Some used) (set xs used e)
+      new_entered i f =
+          let p = none_place e used xs w (among e used xs w ys s h i) in
+          some_entered reflexive e used xs _ (set xs used e) (used + 1) (sym (number_new e used xs f p)) (sym (kept_new e used xs f p)) (cond-false _ _ _ (le-ltb used used (omega arith))) used refl (rw (length-set xs used e) (omega arith)) (new_first reflexive e used xs f p) (apart_new e used xs f p)

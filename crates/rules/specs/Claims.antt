@@ -20,7 +20,7 @@ FailsRight = (f : Rule) (rs : List Played) (p : ℕ) → Fails f rs p ↔ Holds 
 abbrev pub CornerRight : Type 0
 CornerRight = (f : Cosafe) (rs : List Played) (x : ℕ) → Plain f → Holds f rs x ↔ HoldsInside f rs x
 
--- the list of a part and a part after a round are made from the sides' own, as the paper words it and the code goes
+-- the list of a part and a part after a round are made from the sides' own
 pub record StepsRight : Type 0 where
   pub list_step : (ps : List Part) → ((k : ℕ) → Falls k (part ps k)) → (k : ℕ) → list_of ps k ≡ list_from (list_of ps) (duty_number ps k) (part ps k)
   pub after_step : (ps : List Part) → ((k : ℕ) → Falls k (part ps k)) → (r : Played) (k : ℕ) → part_after ps r k ≡ after_from (list_of ps) (part_after ps r) r (duty_number ps k) (part ps k)

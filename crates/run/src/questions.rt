@@ -10,6 +10,7 @@ use terms::count::Count;
 use terms::refusal::Refusal;
 
 // Whether the book has the record of a position, with a status.
+// Kept: 1 and 2 are the bytes that a book has for a status; any other byte is none.
 fn has_record(book: &[u8], p: u8) -> bool
     ensures { result ≡ readable book.now p }
 {

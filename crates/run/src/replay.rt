@@ -84,6 +84,7 @@ pub fn replay<G: Game>(
         stage = next;
         match stage.standing(play) {
             Ok(standing) => steps[i] = Step { reply, standing },
+            // Kept: an open round has to be spent before the refusal is handed on.
             Err(refusal) => {
                 let _ = finish(stage, play);
                 return Err(refusal);

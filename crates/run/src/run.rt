@@ -45,6 +45,7 @@ pub struct Declined {
 }
 
 // The book's answer to an input that is opened at a position, or why it is refused.
+// Kept: a play is given to every call, and an input to those that open a round.
 fn opening<G: Game>(play: &Play<'_, G>, position: u8, input: u8) -> Result<u8, Refusal>
     ensures value { result ≡ opening_at (G.meaning play.now.game.now) play.now.book.now position input }
     ensures stands { IfOk result (λ _. (1 ≤ position) × (input < 16)) }
@@ -72,15 +73,16 @@ impl Run {
         ensures value { result ≡ open_at (G.meaning play.now.game.now) play.now.book.now self.position input }
         ensures stands { IfOk result (λ round. (1 ≤ round.origin) × (round.input < 16)) }
     {
-        // Kept: both arms use the run, which could go into one closure only.
-        match opening(play, self.position, input) {
-            Ok(output) => Ok(Round {
-                origin: self.position,
-                input,
-                output,
-            }),
-            Err(refusal) => Err(Declined { run: self, refusal }),
-        }
+        let position = self.position;
+        let output = opening(play, position, input).map_err(|refusal| Declined {
+            run: self,
+            refusal,
+        })?;
+        Ok(Round {
+            origin: position,
+            input,
+            output,
+        })
     }
 
     // The book's answer to an input, with no round played.
@@ -110,7 +112,7 @@ impl Round {
     }
 
     // No second round may be opened while one is open: of a round that `open` gave, no caller can show what this asks.
-    // Kept: it uses nothing that it is given, since the call that is refused is the one that opens a run.
+    // Kept: it uses nothing that it is given, since it is the call that is refused while a round is open.
     pub fn open<G>(self, _play: &Play<'_, G>, _input: u8) -> Round
         requires { IsNoRound self }
         ensures { result ≡ self }

@@ -1,6 +1,6 @@
 -- The best of several: there is one, only one, and a loop finds it.
-use Rattle.std.proofs.Common.{◌≡◌, ℕ, zero, suc, ◌+◌, ◌<◌, ◌≤◌, ◌⊎◌, ◌∙◌, subst, inl, inr, arith}
-use Rattle.std.proofs.lemmas.Bool.{cases_eq, cases_lt, cases_order}
+use Rattle.std.proofs.Common.{◌≡◌, ℕ, zero, suc, ◌+◌, ◌<◌, ◌⊎◌, ◌∙◌, subst, inl, inr, arith}
+use Rattle.std.proofs.lemmas.Bool.{cases_eq, cases_order}
 use Rattle.terms.specs.Best.{Best}
 
 -- what an order keeps
@@ -13,14 +13,6 @@ pub record Order {A : Type 0} (le : A → A → Type 0) : Type 0 where
 -- the order the other way round
 pub reversed : {A : Type 0} {le : A → A → Type 0} → Order le → Order (λ c d. le d c)
 reversed o = record { same = o.same; trans = λ c d e h l. o.trans e d c l h; decided = λ c d. o.decided d c; total = λ c d. o.total d c }
-
-pub number_order : Order ◌≤◌
-number_order = record {
-  same = λ c. omega arith;
-  trans = λ c d e h l. omega arith;
-  decided = λ c d. elim (cases_lt d c) [ inl l ↦ inr (λ h. omega arith) | inr l ↦ inl l ];
-  total = λ c d n. elim (cases_lt d c) [ inl l ↦ omega arith | inr l ↦ absurd (n l) ];
-}
 
 pub best_once : {A : Type 0} {le : A → A → Type 0} {m : ℕ} {f : ℕ → A} {y z : ℕ} → Best le m f y → Best le m f z → y ≡ z
 best_once {A} {le} {m} {f} {y} {z} s t = elim (cases_order y z) [

@@ -13,5 +13,9 @@ pub fn byte_at(bytes: &[u8], k: usize) -> u8
 pub fn word_at(bytes: &[u8], k: usize) -> u16
     ensures { result ≡ word bytes.now k }
 {
-    u16::from_be_bytes([byte_at(bytes, k), byte_at(bytes, k.saturating_add(1))])
+    match bytes.get(k..) {
+        Some([high, low, ..]) => u16::from_be_bytes([*high, *low]),
+        Some([high]) => u16::from_be_bytes([*high, 0]),
+        _ => 0,
+    }
 }

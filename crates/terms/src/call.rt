@@ -15,7 +15,7 @@ pub enum Call {
 }
 
 // What a call is told.
-#[derive(Clone, Copy, PartialEq, Eq, Debug)]
+#[derive(Clone, Copy, PartialEq, Eq, Default, Debug)]
 pub enum Reply {
     // the book's output for the opened round
     Output(u8),
@@ -28,18 +28,19 @@ pub enum Reply {
     Spoiling(Option<u8>),
     Refused(Refusal),
     // the call is not allowed where it stands
+    #[default]
     NotAllowed,
 }
 
 // Where a run stands: its position, none where it is lost, and its count.
-#[derive(Clone, Copy, PartialEq, Eq, Debug)]
+#[derive(Clone, Copy, PartialEq, Eq, Default, Debug)]
 pub struct Standing {
     pub position: Option<u8>,
     pub count: Count,
 }
 
 // One call of a row: what it was told, and where the run stands after it.
-#[derive(Clone, Copy, PartialEq, Eq, Debug)]
+#[derive(Clone, Copy, PartialEq, Eq, Default, Debug)]
 pub struct Step {
     pub reply: Reply,
     pub standing: Standing,

@@ -3,8 +3,9 @@ ghost use Rattle.std.specs.Prelude.{◌≡◌, Decides};
 ghost use Rattle.terms.specs.Order.{AtMost, plus};
 
 // A count of rounds. Lost stands for -1, and unlimited is above every number.
-#[derive(Clone, Copy, PartialEq, Eq, PartialOrd, Ord, Debug)]
+#[derive(Clone, Copy, PartialEq, Eq, PartialOrd, Ord, Default, Debug)]
 pub enum Count {
+    #[default]
     Lost,
     Limited(u16),
     Unlimited,

@@ -66,6 +66,7 @@ pub enum Layer {
     Solve,
 }
 
+// Kept: a layer is no error, and only errors derive their words.
 impl fmt::Display for Layer {
     fn fmt<W: fmt::Write>(&self, f: &mut fmt::Formatter<W>) -> fmt::Result {
         let name = match self {

@@ -1,5 +1,5 @@
 -- What the reader keeps from word to word, and what its answer says of the text.
-use Rattle.std.proofs.Common.{◌≡◌, ℕ, ◌≤◌, true, false, List, [], ◌∷◌, ◌++◌, map, length, is_err, Ok, Err, Result, sym, refl, ap, ◌∙◌, subst, inl, append_assoc, append-nil, arith}
+use Rattle.std.proofs.Common.{◌≡◌, ℕ, ◌≤◌, true, false, List, [], ◌∷◌, ◌++◌, map, length, is_err, Some, Ok, Err, Result, sym, refl, ap, ◌∙◌, subst, subst₂, inl, append_assoc, append-nil, arith}
 use Rattle.std.specs.List.{AllByRecursion}
 use Rattle.std.proofs.lemmas.List.{map-append}
 use Rattle.terms.specs.declared.refusal.Refusal.{Refusal}
@@ -7,11 +7,13 @@ use Rattle.terms.specs.Refusals as refusals
 use Rattle.words.specs.declared.name.Name.{Name}
 use Rattle.words.specs.declared.signals.Reader.{Reader}
 use Rattle.words.specs.declared.signals.Signals.{Signals}
-use Rattle.words.specs.Words.{Said, out', name', Placed, at, said, Words, words_from}
+use Rattle.words.specs.declared.word.Token.{Token}
+use Rattle.words.specs.declared.word.Word.TheVariants.{End}
+use Rattle.words.specs.Words.{Said, out', name', Placed, at, said, Words, words_from, says, Comes}
 use Rattle.words.specs.Names.{HoldsNames}
-use Rattle.words.specs.Signals.{In, IsSignals, Begins, Told, Answer, served, refused, Fits, Outcome, store_short, text_long, reads, word_wrong, end_wrong, Gives, Leaves, Written, Read, Fault, strange, misplaced, long, repeated, fifth}
-use Rattle.words.specs.Steps.{Step, sort, by_stage, finished}
-use Rattle.words.proofs.WordLaws.{words_all}
+use Rattle.words.specs.Signals.{In, IsSignals, Begins, Told, Answer, served, refused, Fits, Outcome, store_short, text_long, reads, word_wrong, end_wrong, Gives, Leaves, Written, Read, Fault, strange}
+use Rattle.words.specs.Steps.{Step, sorted, by_stage, finished}
+use Rattle.words.proofs.WordLaws.{first_said, end_said, words_all}
 use Rattle.words.proofs.PlainLaws.{Plain, Plainly, words_plain, from_plain}
 use Rattle.words.proofs.SignalLaws.{in_right, all_in, all_from, all_names, IsName, not_out, outcome_one}
 use Rattle.words.proofs.StepLaws.{Stand, before, inputs, outputs, words_of, names_of, reader_at, Sound, stand_begins, Moves, Agrees, step_agrees, output_read}
@@ -37,38 +39,42 @@ start text store h = record {
   holds = h;
 }
 
-module _ (text : List ℕ) (r : Reader) (i : ℕ) (store : List Name) (so : Reading text r i store) where
-  module _ (roomy : 8 ≤ length store) (w : Said) (p n : ℕ) (next : words_from text i ≡ at w p ∷ words_from text n) where
-    agrees : Agrees so.stand w p (by_stage r.stage r store p (sort w))
-    agrees =
-        subst (λ z. Agrees so.stand w p (by_stage z.stage z store p (sort w))) (sym so.is)
-        (step_agrees store p so.stand so.sound roomy so.holds w (from_plain text i w p (words_from text n) next))
+module _ {text : List ℕ} {r : Reader} {i : ℕ} {store : List Name} (so : Reading text r i store) where
+  module _ (roomy : 8 ≤ length store) (t : Token) (on : ¬ (t.word ≡ End)) (comes : Comes text i t) where
+    -- what the token says
+    heard : (w : Said) × (says t.word ≡ Some w) × (words_from text i ≡ at w t.at ∷ words_from text t.next)
+    heard = first_said text i t.at t.next t.word on comes
 
-    onward : words_from text 0 ≡ so.past ++ (at w p ∷ words_from text n)
-    onward = so.split ∙ ap (λ l. so.past ++ l) next
+    agrees : Agrees so.stand heard.0 t.at (by_stage r.stage r store t.at (sorted (says t.word)))
+    agrees =
+        subst₂ (λ z o. Agrees so.stand heard.0 t.at (by_stage z.stage z store t.at (sorted o))) (sym so.is) (sym heard.1)
+        (step_agrees store t.at so.stand so.sound roomy so.holds heard.0 (from_plain text i heard.0 t.at (words_from text t.next) heard.2))
+
+    onward : words_from text 0 ≡ so.past ++ (at heard.0 t.at ∷ words_from text t.next)
+    onward = so.split ∙ ap (λ l. so.past ++ l) heard.2
 
     -- a word that is taken is read
-    pub taken : (s : Reader) (after : List Name) → ◌≡◌ {A = Step} (Ok s, after) (by_stage r.stage r store p (sort w)) → Reading text s n after
-    taken s after e =
-        let m : Moves so.stand w s after = subst (Agrees so.stand w p) (sym e) agrees in
+    pub taken : {s : Reader} {after : List Name} → ◌≡◌ {A = Step} (Ok s, after) (by_stage r.stage r store t.at (sorted (says t.word))) → Reading text s t.next after
+    taken {s} {after} e =
+        let m : Moves so.stand heard.0 s after = subst (Agrees so.stand heard.0 t.at) (sym e) agrees in
         record {
           stand = m.to;
           sound = m.sound;
           is = m.is;
-          past = so.past ++ (at w p ∷ []);
-          split = onward ∙ sym (append_assoc so.past (at w p ∷ []) (words_from text n));
-          words = map-append said so.past (at w p ∷ []) ∙ ap (λ l. l ++ (w ∷ [])) so.words ∙ sym m.words;
+          past = so.past ++ (at heard.0 t.at ∷ []);
+          split = onward ∙ sym (append_assoc so.past (at heard.0 t.at ∷ []) (words_from text t.next));
+          words = map-append said so.past (at heard.0 t.at ∷ []) ∙ ap (λ l. l ++ (heard.0 ∷ [])) so.words ∙ sym m.words;
           holds = m.holds;
         }
 
     -- a word that is refused is the first that is wrong
-    pub wrong : (room : ℕ) → Fits room text → (e : Refusal) (after : List Name) → ◌≡◌ {A = Step} (Err e, after) (by_stage r.stage r store p (sort w)) → Read room text (Err e) after
-    wrong room fits e after is =
-        let t : Told (words_of so.stand) w (refusals.number e) × (refusals.place e ≡ p) = subst (Agrees so.stand w p) (sym is) agrees in
+    pub wrong : {room : ℕ} → Fits room text → {e : Refusal} {after : List Name} → ◌≡◌ {A = Step} (Err e, after) (by_stage r.stage r store t.at (sorted (says t.word))) → Read room text (Err e) after
+    wrong fits {e} is =
+        let f : Told (words_of so.stand) heard.0 (refusals.number e) × (refusals.place e ≡ t.at) = subst (Agrees so.stand heard.0 t.at) (sym is) agrees in
         record {
-          answer = refused (refusals.number e) p;
-          outcome = word_wrong so.past w p (words_from text n) fits (subst (Words 0 text) onward (words_all text)) (subst Begins (sym so.words) (stand_begins so.stand so.sound)) (subst (λ l. Told l w (refusals.number e)) (sym so.words) t.0);
-          gives = (refl, t.1);
+          answer = refused (refusals.number e) t.at;
+          outcome = word_wrong so.past heard.0 t.at (words_from text t.next) fits (subst (Words 0 text) onward (words_all text)) (subst Begins (sym so.words) (stand_begins so.stand so.sound)) (subst (λ l. Told l heard.0 (refusals.number e)) (sym so.words) f.0);
+          gives = (refl, f.1);
           written = tt;
         }
 
@@ -83,7 +89,7 @@ module _ (text : List ℕ) (r : Reader) (i : ℕ) (store : List Name) (so : Read
   unbegun : (ins outs : List (List ℕ)) → ¬ IsSignals [] ins outs
   unbegun ins outs s = let e = s.says in cc
 
-  module _ (room : ℕ) (fits : Fits room text) (end : words_from text i ≡ []) where
+  module _ {room : ℕ} (fits : Fits room text) (end : words_from text i ≡ []) where
     whole : Words 0 text so.past
     whole = subst (Words 0 text) (so.split ∙ ap (λ l. so.past ++ l) end ∙ append-nil so.past) (words_all text)
 
@@ -94,8 +100,8 @@ module _ (text : List ℕ) (r : Reader) (i : ℕ) (store : List Name) (so : Read
     Ends s = so.stand ≡ s → Read room text (finished (reader_at s) (length text)) store
 
     -- what the reader says at the end
-    pub ended : Read room text (finished r (length text)) store
-    ended = subst (λ z. Read room text (finished z (length text)) store) (sym so.is) (go so.stand refl)
+    at_end : Read room text (finished r (length text)) store
+    at_end = subst (λ z. Read room text (finished z (length text)) store) (sym so.is) (go so.stand refl)
       where
         go : (s : Stand) → Ends s
         go before e = record { answer = refused 3 (length text); outcome = cut (λ ins outs s. unbegun ins outs (subst (λ z. IsSignals (words_of z) ins outs) e s)); gives = (refl, refl); written = tt }
@@ -109,15 +115,18 @@ module _ (text : List ℕ) (r : Reader) (i : ℕ) (store : List Name) (so : Read
               written = subst (λ z. HoldsNames (names_of z) store) e so.holds;
             }
 
+  -- what is answered at the token of the end
+  pub ended : {room : ℕ} → Fits room text → (t : Token) → t.word ≡ End → Comes text i t → Read room text (finished r t.at) store
+  ended {room} fits t is comes =
+      let e = end_said text i t.at t.next t.word is comes in
+      subst (λ n. Read room text (finished r n) store) (sym e.1) (at_end fits e.0)
+
 -- ---- the whole call
 
 -- the lowest fault of a word is none of a store
 low_number : (ws : List Said) {w : Said} {k : ℕ} → Fault ws w k → k ≤ 6
 low_number ws strange = omega arith
-low_number ws (misplaced h) = omega arith
-low_number ws (long h) = omega arith
-low_number ws (repeated h) = omega arith
-low_number ws (fifth b f h i) = omega arith
+low_number ws f = omega arith
 
 module _ (room : ℕ) (text : List ℕ) where
   not_store : Fits room text → {k p : ℕ} → Outcome room text (refused k p) → k ≡ 13 → ⊥
@@ -140,8 +149,8 @@ module _ (room : ℕ) (text : List ℕ) where
     }
 
     -- a store that is cleared behind a refusal
-    pub cleared : Fits room text → (r : Result Signals Refusal) (mid : List Name) → Read room text r mid → is_err r ≡ true → HoldsNames [] after → Promised r
-    cleared f r mid so h e = one_answer r so.answer so.outcome so.gives (go r so.answer so.outcome so.gives h)
+    pub cleared : Fits room text → {n : ℕ} (r : Result Signals Refusal) (mid : List Name) → Read n text r mid → n ≡ room → is_err r ≡ true → HoldsNames [] after → Promised r
+    cleared f r mid so is h e = let o = subst (λ n. Outcome n text so.answer) is so.outcome in one_answer r so.answer o so.gives (go r so.answer o so.gives h)
       where
         go : (r : Result Signals Refusal) (a : Answer) → Outcome room text a → Gives r a → is_err r ≡ true → Leaves store a after
         go (Ok s) a o g h = cc
@@ -149,8 +158,8 @@ module _ (room : ℕ) (text : List ℕ) where
         go (Err d) (refused k p) o g h = (λ z. absurd (not_store f o z), λ z. e)
 
     -- a store with the names of a text that is served
-    pub kept : (r : Result Signals Refusal) → Read room text r after → is_err r ≡ false → Promised r
-    kept r so h = one_answer r so.answer so.outcome so.gives (go r so.answer so.gives so.written h)
+    pub kept : {n : ℕ} (r : Result Signals Refusal) → Read n text r after → n ≡ room → is_err r ≡ false → Promised r
+    kept r so is h = one_answer r so.answer (subst (λ n. Outcome n text so.answer) is so.outcome) so.gives (go r so.answer so.gives so.written h)
       where
         go : (r : Result Signals Refusal) (a : Answer) → Gives r a → Written a after → is_err r ≡ false → Leaves store a after
         go (Ok s) (served ins outs) g w h = w

@@ -89,33 +89,22 @@ stand_begins (outputs xs ys) o = (
 -- ---- the lowest fault
 
 abbrev Even : Sort → Type 0
-Even begins = Unit {0}
-Even turns = Unit {0}
-Even other = Unit {0}
-Even (called x) = Unit {0}
 Even odd = ⊥
+Even s = Unit {0}
 
 module _ (ws : List Said) where
   low2 : {w : Said} {j : ℕ} → Fault ws w j → 2 ≤ j
   low2 strange = omega arith
-  low2 (misplaced h) = omega arith
-  low2 (long h) = omega arith
-  low2 (repeated h) = omega arith
-  low2 (fifth b f h i) = omega arith
+  low2 f = omega arith
 
   low3 : {w : Said} {j : ℕ} → Fault ws w j → Even (sort w) → 3 ≤ j
   low3 strange n = absurd n
-  low3 (misplaced h) n = omega arith
-  low3 (long h) n = omega arith
-  low3 (repeated h) n = omega arith
-  low3 (fifth b f h i) n = omega arith
+  low3 f n = omega arith
 
   module _ (x : List ℕ) (formed : Formed (ws ++ (name' x ∷ []))) where
     low4 : {j : ℕ} → Fault ws (name' x) j → 4 ≤ j
     low4 (misplaced h) = absurd (h formed)
-    low4 (long h) = omega arith
-    low4 (repeated h) = omega arith
-    low4 (fifth b f h i) = omega arith
+    low4 f = omega arith
 
     low6 : {j : ℕ} → Fault ws (name' x) j → length x ≤ 8 → (In (name' x) ws → ⊥) → 6 ≤ j
     low6 (misplaced h) s n = absurd (h formed)
@@ -138,11 +127,8 @@ Agrees s w p (Ok r, store) = Moves s w r store
 Agrees s w p (Err e, store) = Told (words_of s) w (refusals.number e) × (refusals.place e ≡ p)
 
 abbrev IsOther : Sort → Type 0
-IsOther begins = ⊥
-IsOther turns = ⊥
 IsOther other = Unit {0}
-IsOther (called x) = ⊥
-IsOther odd = ⊥
+IsOther s = ⊥
 
 -- a word of another sort is neither `in`, `out` nor a name
 other_not : (v w : Said) → sort w ≡ other → w ≡ v → IsOther (sort v)

@@ -7,8 +7,8 @@ use Rattle.std.proofs.lemmas.List.Sums.{prefix_len-le-length, prefix_len_stops}
 use Rattle.std.proofs.lemmas.Slice.{between_to_end}
 use Rattle.std.proofs.lemmas.Bool.{cond-true}
 use Rattle.words.specs.declared.word.Word.{Word}
-use Rattle.words.specs.declared.word.Word.TheVariants.{Next, Always, Release, Until, Finally, And, Or, Not, Open, Close, In, Out, True, False, Name, Strange, End}
-use Rattle.words.specs.Words.{Said, X', G', R', U', F', and', or', not', open', close', in', out', true', false', name', strange', Placed, at, is_blank, Kind, blank, letter, other, kind, goes_on, spelled, mark, Run, ends, stops, more, Words, none, gap, one, long, words_in, words_from, says, Comes}
+use Rattle.words.specs.declared.word.Word.TheVariants.{End}
+use Rattle.words.specs.Words.{Said, Placed, at, is_blank, Kind, blank, letter, other, kind, goes_on, spelled, mark, Run, ends, stops, more, Words, none, gap, one, long, words_in, words_from, says, Comes}
 
 -- a text has one longest run
 pub run_one : {bs r rest r' rest' : List ℕ} → Run bs r rest → Run bs r' rest' → (r ≡ r') × (rest ≡ rest')
@@ -150,23 +150,8 @@ module _ (bs : List ℕ) (from p n : ℕ) (s : Said) where
 module _ (bs : List ℕ) (from p n : ℕ) where
   -- a token that comes says the first word, unless it is the end
   pub first_said : (w : Word) → ¬ (w ≡ End) → Comes bs from (record { word = w; at = p; next = n }) → (s : Said) × (says w ≡ Some s) × (words_from bs from ≡ at s p ∷ words_from bs n)
-  first_said Next h e = (X', refl, e)
-  first_said Always h e = (G', refl, e)
-  first_said Release h e = (R', refl, e)
-  first_said Until h e = (U', refl, e)
-  first_said Finally h e = (F', refl, e)
-  first_said And h e = (and', refl, e)
-  first_said Or h e = (or', refl, e)
-  first_said Not h e = (not', refl, e)
-  first_said Open h e = (open', refl, e)
-  first_said Close h e = (close', refl, e)
-  first_said In h e = (in', refl, e)
-  first_said Out h e = (out', refl, e)
-  first_said True h e = (true', refl, e)
-  first_said False h e = (false', refl, e)
-  first_said (Name r) h e = (name' r.now, refl, e)
-  first_said (Strange b) h e = (strange' b, refl, e)
   first_said End h e = absurd (h refl)
+  first_said w h e = (_, refl, e)
 
   -- behind the last word comes the end, at the text's length
   pub end_said : (w : Word) → w ≡ End → Comes bs from (record { word = w; at = p; next = n }) → (words_from bs from ≡ []) × (p ≡ length bs)

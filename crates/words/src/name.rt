@@ -14,6 +14,7 @@ pub struct Name {
 
 impl Name {
     // The name that a run is. One of more than eight bytes is none.
+    // Kept: an Option, and no TryFrom, since nobody asks why a run is no name.
     pub fn of(run: &[u8]) -> Option<Name>
         ensures { result ≡ name_of run.now }
     {

@@ -17,7 +17,7 @@ fn blanks(bytes: &[u8]) -> usize
 }
 
 // How many letters and digits stand at the front.
-// Kept: one function that takes the test needs a ghost test, two clauses on its closure and a pick at each call, for one chain.
+// Kept: one function that takes the test was tried, and the goal of what it counts stays open.
 fn run_length(bytes: &[u8]) -> usize
     ensures count { result ≡ prefix_len goes_on bytes.now }
     ensures within { result ≤ length bytes.now }

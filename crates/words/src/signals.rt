@@ -45,6 +45,7 @@ struct Reader {
 
 impl Reader {
     // Enters a name behind those that were read, of which `count` are of its kind: how many there are then.
+    // Kept: the count is of one kind of names, and no length of the store.
     fn enter(self, names: &mut [Name], count: u8, run: &[u8], at: usize) -> Result<u8, Refusal>
         ensures { (result, names.new) ≡ entered count (self.read.inputs + self.read.outputs) at (name_of run.now) names.old }
     {
@@ -126,6 +127,7 @@ pub fn read_signals(text: &[u8], names: &mut [Name]) -> Result<Signals, Refusal>
     if text.len() > 1024 {
         return Err(Refusal::TextTooLong);
     }
+    // Kept: the names are cleared behind a refusal, while the refusal goes on.
     let read = read_words(text, names);
     if read.is_err() {
         clear(names);

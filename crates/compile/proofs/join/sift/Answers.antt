@@ -1,8 +1,7 @@
 use Rattle.std.proofs.Common.{◌≡◌, ◌+◌, ◌<◌, true, false, [], ◌∷◌, ◌++◌, length, get_or, drop, sym, ap, ◌∙◌, arith, length-append}
 use Rattle.std.proofs.lemmas.List.{at_drop_all}
 use Rattle.std.proofs.lemmas.Bool.{cond-true, cond-false, le-leb, lt-leb}
-use Rattle.std.specs.List.{list_any}
-use Rattle.rules.specs.Sets.{within, covered, sifted, fit}
+use Rattle.rules.specs.Sets.{covered, sifted, fit}
 use Rattle.compile.specs.Listed.{told}
 use Rattle.compile.proofs.JoinLaws.{covered_any, sifted_no_shorter, sifted_passes, sifted_takes}
 use Rattle.compile.proofs.join.sift.Goals as goal
@@ -13,7 +12,7 @@ returns-in_err-push c =
     let xs = c.args.ascending.now in
     let i = c.loop-x.x-index in
     let kept = c.loop-x.kept in
-    let no : covered kept (get_or xs i 0) ≡ false = sym (covered_any kept (get_or xs i 0)) ∙ ap (λ l. list_any (λ y. within y (get_or xs i 0)) l) (sym c.as_slice.ensures.sets) ∙ sym c.if-not-is_covered.ensures in
+    let no : covered kept (get_or xs i 0) ≡ false = sym ((rw c.as_slice.ensures.sets at c.if-not-is_covered.ensures) ∙ covered_any kept (get_or xs i 0)) in
     let next = kept ++ (get_or xs i 0 ∷ []) in
     let all : sifted next (drop (i + 1) xs) ≡ sifted [] xs = sym (sifted_takes kept xs i c.loop-x-test.true no) ∙ c.loop-x.invariant.same in
     let full : length kept ≡ 32 = c.in_err-push.ensures in
@@ -27,7 +26,7 @@ loop-x-preserved c =
     let kept = c.loop-x.kept in
     elim c.if-not-is_covered.branch [
       | then-not-is_covered+in_ok-push w ↦
-          let no : covered kept (get_or xs i 0) ≡ false = sym (covered_any kept (get_or xs i 0)) ∙ ap (λ l. list_any (λ y. within y (get_or xs i 0)) l) (sym c.as_slice.ensures.sets) ∙ sym w.if-not-is_covered.ensures in
+          let no : covered kept (get_or xs i 0) ≡ false = sym ((rw c.as_slice.ensures.sets at w.if-not-is_covered.ensures) ∙ covered_any kept (get_or xs i 0)) in
           let grown : c.if-not-is_covered.kept ≡ kept ++ (get_or xs i 0 ∷ []) = w.kept-is ∙ w.in_ok-push.ensures.1 in
           let room : length kept < 32 = w.in_ok-push.ensures.0 in
           record {
@@ -35,7 +34,7 @@ loop-x-preserved c =
             same = ap (λ l. sifted l (drop (i + 1) xs)) grown ∙ sym (sifted_takes kept xs i c.loop-x-test.true no) ∙ c.loop-x.invariant.same;
           }
       | else-not-is_covered w ↦
-          let yes : covered kept (get_or xs i 0) ≡ true = sym (covered_any kept (get_or xs i 0)) ∙ ap (λ l. list_any (λ y. within y (get_or xs i 0)) l) (sym c.as_slice.ensures.sets) ∙ sym w.if-not-is_covered.ensures in
+          let yes : covered kept (get_or xs i 0) ≡ true = sym ((rw c.as_slice.ensures.sets at w.if-not-is_covered.ensures) ∙ covered_any kept (get_or xs i 0)) in
           record {
             few = omega (arith, ap length w.kept-is, c.loop-x.invariant.few);
             same = ap (λ l. sifted l (drop (i + 1) xs)) w.kept-is ∙ sym (sifted_passes kept xs i c.loop-x-test.true yes) ∙ c.loop-x.invariant.same;

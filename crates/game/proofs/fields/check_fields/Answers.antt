@@ -1,27 +1,29 @@
 -- What is refused, stage by stage: a cut header, a wrong header field, a wrong length, a wrong field of a record.
-use Rattle.std.proofs.Common.{◌≡◌, ℕ, ◌+◌, ◌<◌, ◌≤◌, length, sym, refl, ap, ◌∙◌, subst, arith}
+use Rattle.std.proofs.Common.{◌≡◌, ℕ, ◌+◌, length, sym, refl, ap, ◌∙◌, subst, arith}
 use Rattle.std.proofs.lemmas.Bool.Decides.{nat_tests}
-use Rattle.arena.specs.Diagram.{full_length, Headed, RecordRight, FieldWrong, First, Refused}
+use Rattle.arena.specs.Diagram.{full_length, Measured, RecordRight, FieldWrong, First, Refused}
 use Rattle.game.proofs.ReadingLaws.{right_all, passed_on}
 use Rattle.game.proofs.fields.check_fields.Goals as goal
+use Rattle.game.proofs.fields.check_fields.Goals.{In_ok-check-2}
+
+-- the header and the length are right
+measured : (c : In_ok-check-2) → Measured c.args.bytes.now
+measured c =
+    let long : length c.args.bytes.now ≡ full_length c.in_ok-shape.shape = grind (arith, nat_tests) in
+    record { headed = record { whole = grind (arith, nat_tests); right = c.in_ok-shape.ensures.1 }; long = long ∙ ap full_length c.in_ok-shape.ensures.0 }
 
 pub returns-in_err-check : goal.returns-in_err-check
-returns-in_err-check c =
-    let cut : length c.args.bytes.now < 8 = grind (arith, nat_tests) in
-    passed_on _ _ _ _ c.from_residual.ensures.1 (Refused.field _ c.in_err-check.ensures.1 (FieldWrong.cut cut refl))
+returns-in_err-check c = passed_on _ _ _ _ c.from_residual.ensures.1 (Refused.field _ c.in_err-check.ensures.1 (FieldWrong.cut (grind (arith, nat_tests)) refl))
 
 pub returns-in_err-shape : goal.returns-in_err-shape
 returns-in_err-shape c =
-    let whole : 8 ≤ length c.args.bytes.now = grind (arith, nat_tests) in
     let wrong = c.in_err-shape.ensures in
-    passed_on _ _ _ _ c.from_residual-in_err-shape.ensures.1 (Refused.field wrong.0 wrong.1 (FieldWrong.header whole wrong.2))
+    passed_on _ _ _ _ c.from_residual-in_err-shape.ensures.1 (Refused.field wrong.0 wrong.1 (FieldWrong.header (grind (arith, nat_tests)) wrong.2))
 
 pub returns-in_err-check-2 : goal.returns-in_err-check-2
 returns-in_err-check-2 c =
-    let whole : 8 ≤ length c.args.bytes.now = grind (arith, nat_tests) in
-    let headed : Headed c.args.bytes.now = record { whole = whole; right = c.in_ok-shape.ensures.1 } in
     passed_on _ _ _ _ c.from_residual-in_err-check-2.ensures.1
-    (Refused.field _ c.in_err-check-2.ensures.1 (FieldWrong.misfit headed (λ e. let long = e ∙ ap full_length (sym c.in_ok-shape.ensures.0) in grind (arith, nat_tests)) refl))
+    (Refused.field _ c.in_err-check-2.ensures.1 (FieldWrong.misfit (record { whole = grind (arith, nat_tests); right = c.in_ok-shape.ensures.1 }) (λ e. let long = e ∙ ap full_length (sym c.in_ok-shape.ensures.0) in grind (arith, nat_tests)) refl))
 
 pub check_record-requires : goal.check_record-requires
 check_record-requires c =
@@ -33,18 +35,12 @@ check_record-requires c =
 
 pub returns-in_err-check_record : goal.returns-in_err-check_record
 returns-in_err-check_record c =
-    let whole : 8 ≤ length c.args.bytes.now = grind (arith, nat_tests) in
-    let headed : Headed c.args.bytes.now = record { whole = whole; right = c.in_ok-shape.ensures.1 } in
-    let long : length c.args.bytes.now ≡ full_length c.in_ok-shape.shape = grind (arith, nat_tests) in
     let wrong = c.in_err-check_record.ensures in
     passed_on _ _ _ _ c.from_residual-in_err-check_record.ensures.1
-    (Refused.field wrong.0 wrong.1 (FieldWrong.field (record { headed = headed; long = long ∙ ap full_length c.in_ok-shape.ensures.0 }) (subst (λ h. First (λ j. RecordRight h c.args.bytes.now j → ⊥) wrong.0) c.in_ok-shape.ensures.0 wrong.2)))
+    (Refused.field wrong.0 wrong.1 (FieldWrong.field (measured (goal.at.returns-in_err-check_record c).In_ok-check-2) (subst (λ h. First (λ j. RecordRight h c.args.bytes.now j → ⊥) wrong.0) c.in_ok-shape.ensures.0 wrong.2)))
 
 pub returns-in_ok-check_record : goal.returns-in_ok-check_record
 returns-in_ok-check_record c =
-    let whole : 8 ≤ length c.args.bytes.now = grind (arith, nat_tests) in
-    let headed : Headed c.args.bytes.now = record { whole = whole; right = c.in_ok-shape.ensures.1 } in
-    let long : length c.args.bytes.now ≡ full_length c.in_ok-shape.shape = grind (arith, nat_tests) in
     let same = c.in_ok-shape.ensures.0 in
     let right = right_all c.in_ok-shape.shape c.args.bytes.now (c.loop-r.r + 1) (omega arith) c.in_ok-check_record.ensures in
-    (same, record { measured = record { headed = headed; long = long ∙ ap full_length same }; right = subst (λ h. (k : ℕ) → RecordRight h c.args.bytes.now k) same right })
+    (same, record { measured = measured (goal.at.returns-in_ok-check_record c).In_ok-check-2; right = subst (λ h. (k : ℕ) → RecordRight h c.args.bytes.now k) same right })

@@ -1,7 +1,7 @@
 -- A text comes to one thing, and that is what is answered.
-use Rattle.std.proofs.Common.{◌≡◌, length, Err, sym, refl, subst, arith}
+use Rattle.std.proofs.Common.{length, Err, sym, refl, arith}
 use Rattle.terms.specs.declared.refusal.Refusal.TheVariants.{StoreTooShort, TextTooLong}
-use Rattle.words.specs.Signals.{Read, Fits, store_short, text_long, refused}
+use Rattle.words.specs.Signals.{store_short, text_long, refused}
 use Rattle.words.proofs.ReadLaws.{one_answer, cleared, kept}
 use Rattle.words.proofs.signals.read_signals.Goals as goal
 
@@ -17,17 +17,10 @@ returns-then-text-gt1024 c =
 
 pub returns-then-is_err : goal.returns-then-is_err
 returns-then-is_err c =
-    let room = length c.args.names.now in
-    let same : length c.clear.new.names ≡ room = omega (arith, c.clear.auto.names) in
-    let fits : Fits room c.args.text.now = record { roomy = c.if-names-lt8.false; short = c.if-text-gt1024.false } in
-    let so = subst (λ n. Read n c.args.text.now c.read_words-read.result c.read_words-read.new.names) same c.read_words-read.ensures in
-    let p = cleared room c.args.text.now c.args.names.now c.clear-then-is_err.new.names fits c.read_words-read.result c.read_words-read.new.names so (sym c.if-is_err.ensures.value) c.clear-then-is_err.ensures in
+    let p = cleared (length c.args.names.now) c.args.text.now c.args.names.now c.clear-then-is_err.new.names (record { roomy = c.if-names-lt8.false; short = c.if-text-gt1024.false }) c.read_words-read.result c.read_words-read.new.names c.read_words-read.ensures (omega (arith, c.clear.auto.names)) (sym c.if-is_err.ensures.value) c.clear-then-is_err.ensures in
     record { outcome = p.outcome; only = p.only }
 
 pub returns-else-is_err : goal.returns-else-is_err
 returns-else-is_err c =
-    let room = length c.args.names.now in
-    let same : length c.clear.new.names ≡ room = omega (arith, c.clear.auto.names) in
-    let so = subst (λ n. Read n c.args.text.now c.read_words-read.result c.read_words-read.new.names) same c.read_words-read.ensures in
-    let p = kept room c.args.text.now c.args.names.now c.read_words-read.new.names c.read_words-read.result so (sym c.if-is_err.ensures.value) in
+    let p = kept (length c.args.names.now) c.args.text.now c.args.names.now c.read_words-read.new.names c.read_words-read.result c.read_words-read.ensures (omega (arith, c.clear.auto.names)) (sym c.if-is_err.ensures.value) in
     record { outcome = p.outcome; only = p.only }

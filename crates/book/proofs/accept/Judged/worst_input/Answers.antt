@@ -1,12 +1,6 @@
-use Rattle.std.proofs.Common.{rules, ℕ, subst}
-use Rattle.terms.specs.declared.count.Count.{Count}
-use Rattle.terms.specs.Order.{Least}
-use Rattle.book.specs.Told.{answer_told, count_in}
+use Rattle.std.proofs.Common.{rules}
 use Rattle.book.proofs.CountPicks.{least_of}
 use Rattle.book.proofs.accept.Judged.worst_input.Goals as goal
 
 pub returns : goal.returns
-returns g c =
-    let bs = c.args.self.now.book.now in
-    let f : ℕ → Count = λ x. count_in bs ((g.G.Game.meaning c.args.self.now.game.now).move c.args.p x (answer_told bs c.args.p x)) in
-    subst (λ n. Least n f c.least.result) c.input_count.ensures.0 (least_of (c.least.ensures f (λ x r l t. search rules)))
+returns g c = least_of c.input_count.ensures.0 c.least.ensures (λ x r l t. search rules)

@@ -1,4 +1,4 @@
-use Rattle.std.proofs.Common.{rules, ◌≡◌, ℕ, suc, ◌+◌, ◌<◌, true, false, refl, arith}
+use Rattle.std.proofs.Common.{rules, ◌&&◌, ◌≡◌, ℕ, suc, ◌+◌, ◌<◌, true, false, refl, arith}
 use Rattle.std.proofs.lemmas.Bool.{true≢false}
 use Rattle.arena.specs.Held.{Held, Settled}
 use Rattle.arena.proofs.HeldLaws.{held_place}
@@ -14,12 +14,13 @@ returns g c =
     let w = swept _ _ c.loop-p.p _ _ (omega arith) c.loop-p.invariant.1 c.loop-p.invariant.2 c.loop-p.invariant.3 in
     record { same = c.loop-p.invariant.0; after = w.0; settled = w.1 }
 
-pub returns-after-not-raise : goal.returns-after-not-raise
-returns-after-not-raise g c =
+pub returns-2 : goal.returns-2
+returns-2 g c =
     let a = g.G.Game.meaning c.args.self.now.game.now in
     let k = c.args.k in
-    let amid : Amid a k (c.loop-p.p + 1) c.raise.new.self.ranks = search rules in
-    let kept : c.if-not-raise.none ≡ true → (q : ℕ) → q < c.loop-p.p + 1 → Held a k q → Held a (suc k) q = search rules in
-    let dropped : c.if-not-raise.none ≡ false → Settled a k → ⊥ = search rules in
-    let w = swept a k (c.loop-p.p + 1) c.raise.new.self.ranks c.if-not-raise.none (omega arith) amid kept dropped in
+    let none = c.loop-p.none && c.raise-none.result in
+    let amid : Amid a k (c.loop-p.p + 1) c.raise-none.new.self.ranks = search rules in
+    let kept : none ≡ true → (q : ℕ) → q < c.loop-p.p + 1 → Held a k q → Held a (suc k) q = search rules in
+    let dropped : none ≡ false → Settled a k → ⊥ = search rules in
+    let w = swept a k (c.loop-p.p + 1) c.raise-none.new.self.ranks none (omega arith) amid kept dropped in
     record { same = search rules; after = w.0; settled = w.1 }

@@ -1,59 +1,62 @@
 -- Each round goes on from what those before it left.
-use Rattle.std.proofs.Common.{◌≡◌, suc, ◌+◌, ◌*◌, ◌^◌, ◌<◌, ◌≤◌, get_or, drop, fold, Ok, Err, sym, ap, ◌∙◌, subst, ap₂, subst₂, mul-le-mul, arith}
-use Rattle.std.proofs.lemmas.Result.{err_from_is_err_and}
-use Rattle.words.specs.declared.signals.Signals.{Signals}
-use Rattle.rules.specs.Explore.{positions, move, rounds}
+use Rattle.std.proofs.Common.{◌≡◌, ℕ, suc, ◌+◌, ◌*◌, ◌^◌, ◌<◌, ◌≤◌, max, List, get_or, drop, Some, Ok, fold, sym, ap, ◌∙◌, ap₂, mul-le-mul, arith}
+use Rattle.terms.specs.declared.refusal.Refusal.{Refusal}
+use Rattle.rules.specs.declared.part.Part.{Part}
+use Rattle.rules.specs.Explore.{Compiled, positions, met, move, rounds}
+use Rattle.compile.specs.declared.position.Position.{Position}
 use Rattle.compile.specs.Positions.{unused, reason}
-use Rattle.compile.specs.Charting.{known_in, Charting, Goes, Leaves}
+use Rattle.compile.specs.Charting.{known_in, list_next, Charting, Goes}
+use Rattle.compile.proofs.GivenLaws.{err_is}
 use Rattle.compile.proofs.ChartLaws.{chart_more, chart_next, list_kept}
 use Rattle.compile.proofs.ExploreLaws.{moves_step, moves_done, moves_stuck}
 use Rattle.compile.proofs.explore.Explorer.explore_position.Goals as goal
+use Rattle.compile.proofs.explore.Explorer.explore_position.Goals.{After-count_of-2}
+
+module _ (i o : ℕ) (ps : List Part) (p : ℕ) where
+  -- what the rounds from t on come to
+  abbrev rest : ℕ → ℕ → List Position → Compiled
+  rest used t store = fold (move ps (suc p) (get_or store p unused).list) (positions (known_in used store)) (drop t (rounds i o))
+
+  module _ (used t : ℕ) (store : List Position) {e : Compiled} (lt : t < 2 ^ i * 2 ^ o) (left : e ≡ rest used t store) where
+    -- a round that leads nowhere says why
+    stopped : {r : Refusal} → reason (met (suc p) (known_in used store) (list_next o ps p t store)) ≡ Some r → reason e ≡ Some r
+    stopped goes = ap reason (left ∙ moves_step ps i o p t _ _ lt ∙ moves_stuck ps (suc p) (get_or store p unused).list (drop (t + 1) (rounds i o)) _ _ goes) ∙ goes
+
+    -- a round more leaves those behind it
+    gone_on : (used' : ℕ) (after : List Position) → Charting (2 ^ i * 2 ^ o) o ps used p t store → p < used → t < 256 → Goes o ps used p t store used' after (Ok tt) → (Charting (2 ^ i * 2 ^ o) o ps used' p (t + 1) after) × (e ≡ rest used' (t + 1) after)
+    gone_on used' after chart inside few (n, is, round) =
+        let kept = list_kept _ o ps used p t store after n chart inside few round in
+        let behind = drop (t + 1) (rounds i o) in
+        rw is (
+          chart_more _ o ps used p t store after n chart inside few round,
+          left
+              ∙ moves_step ps i o p t _ _ lt
+              ∙ ap (λ f. fold (move ps (suc p) (get_or store p unused).list) f behind) round.is
+              ∙ ap (λ s. fold (move ps (suc p) s) (positions (known_in (max used n) after)) behind) (sym kept),
+        )
+
+-- how many rounds there are
+count : (c : After-count_of-2) → c.count_of.result * c.count_of-2.result ≡ 2 ^ c.args.self.now.signals.inputs * 2 ^ c.args.self.now.signals.outputs
+count c = ap₂ (λ x y. x * y) c.count_of.ensures.0 c.count_of-2.ensures.0
 
 pub returns-in_err-explore_round-clause-leaves : goal.returns-in_err-explore_round-clause-leaves
 returns-in_err-explore_round-clause-leaves c =
-    let self = c.args.self.now in
-    let ps = self.progress.outline.parts.now in
-    let i = self.signals.inputs in
-    let o = self.signals.outputs in
-    let at = c.loop-t.found in
     let inv = c.loop-t.invariant in
-    let after = c.explore_round.new.found in
-    let goes = subst₂ (λ (s : Signals) qs. Goes s.outputs qs at.used c.args.p c.loop-t.t at.store.now after.used after.store.now (Err c.in_err-explore_round.field-0.0)) inv.signals inv.parts c.in_err-explore_round.ensures.goes in
-    let count : c.count_of.result * c.count_of-2.result ≡ 2 ^ i * 2 ^ o = ap₂ (λ x y. x * y) c.count_of.ensures.0 c.count_of-2.ensures.0 in
-    let e = err_from_is_err_and c.from_residual.result c.from_residual.ensures.1 in
-    subst (Leaves i o ps c.args.found.now.used c.args.p c.args.found.now.store.now after.used after.store.now) (sym (e.1 ∙ ap Err e.2))
-    (ap reason (
-    inv.left
-    ∙ moves_step ps i o c.args.p c.loop-t.t _ _ (omega (arith, c.loop-t-test.true))
-    ∙ moves_stuck ps (suc c.args.p) _ (drop (c.loop-t.t + 1) (rounds i o)) _ c.in_err-explore_round.field-0.0 goes)
-    ∙ goes)
+    let s = c.args.self.now.signals in
+    let n = count (goal.at.returns-in_err-explore_round-clause-leaves c).After-count_of-2 in
+    rw (err_is _ c.from_residual.ensures.1) (stopped s.inputs s.outputs _ c.args.p c.loop-t.found.used c.loop-t.t c.loop-t.found.store.now (omega (arith, c.loop-t-test.true)) inv.left (rw (inv.signals, inv.parts) at c.in_err-explore_round.ensures.goes))
 
 pub loop-t-preserved : goal.loop-t-preserved
 loop-t-preserved c =
-    let self = c.args.self.now in
-    let ps = self.progress.outline.parts.now in
-    let i = self.signals.inputs in
-    let o = self.signals.outputs in
-    let turns = 2 ^ i * 2 ^ o in
-    let t = c.loop-t.t in
-    let at = c.loop-t.found in
     let inv = c.loop-t.invariant in
-    let after = c.explore_round.new.found in
-    let goes = subst₂ (λ (s : Signals) qs. Goes s.outputs qs at.used c.args.p t at.store.now after.used after.store.now (Ok tt)) inv.signals inv.parts c.in_ok-explore_round.ensures.goes in
-    let n = goes.0 in
-    let round = goes.2 in
+    let s = c.args.self.now.signals in
+    let n = count (goal.at.loop-t-preserved c).After-count_of-2 in
     let most : c.count_of.result * c.count_of-2.result ≤ 16 * 16 = mul-le-mul c.count_of.ensures.1 c.count_of-2.ensures.1 in
-    let count : c.count_of.result * c.count_of-2.result ≡ turns = ap₂ (λ x y. x * y) c.count_of.ensures.0 c.count_of-2.ensures.0 in
-    let few : t < 256 = omega (arith, c.loop-t-test.true) in
-    let kept = list_kept turns o ps at.used c.args.p t at.store.now after.store.now n inv.chart inv.inside few round in
+    let on = gone_on s.inputs s.outputs _ _ _ c.loop-t.t _ (omega (arith, c.loop-t-test.true)) inv.left _ c.explore_round.new.found.store.now inv.chart inv.inside (omega (arith, c.loop-t-test.true)) (rw (inv.signals, inv.parts) at c.in_ok-explore_round.ensures.goes) in
     record {
-      chart = subst (λ u. Charting turns o ps u c.args.p (t + 1) after.store.now) (sym goes.1) (chart_more turns o ps at.used c.args.p t at.store.now after.store.now n inv.chart inv.inside few round);
-      left =
-          inv.left
-          ∙ moves_step ps i o c.args.p t _ _ (omega (arith, c.loop-t-test.true))
-          ∙ ap (λ e. fold (move ps (suc c.args.p) (get_or at.store.now c.args.p unused).list) e (drop (t + 1) (rounds i o))) round.is
-          ∙ ap₂ (λ s u. fold (move ps (suc c.args.p) s) (positions (known_in u after.store.now)) (drop (t + 1) (rounds i o))) (sym kept) (sym goes.1);
-      inside = omega (arith, goes.1, inv.inside);
+      chart = on.0;
+      left = on.1;
+      inside = omega (arith, c.in_ok-explore_round.ensures.goes.1, inv.inside);
       parts = c.explore_round.ensures.rule.0 ∙ inv.parts;
       signals = c.explore_round.ensures.rule.1 ∙ inv.signals;
       lender = c.explore_round.ensures.lender ∙ inv.lender;
@@ -61,15 +64,10 @@ loop-t-preserved c =
 
 pub returns-clause-leaves : goal.returns-clause-leaves
 returns-clause-leaves c =
-    let self = c.args.self.now in
-    let ps = self.progress.outline.parts.now in
-    let i = self.signals.inputs in
-    let o = self.signals.outputs in
-    let turns = 2 ^ i * 2 ^ o in
-    let at = c.loop-t.found in
     let inv = c.loop-t.invariant in
-    let count : c.count_of.result * c.count_of-2.result ≡ turns = ap₂ (λ x y. x * y) c.count_of.ensures.0 c.count_of-2.ensures.0 in
-    let all : c.loop-t.t ≡ turns = omega (arith, c.loop-t-test.false, c.loop-t.auto.t-end) in (
-      inv.left ∙ moves_done ps i o c.args.p c.loop-t.t _ _ (omega arith),
-      chart_next turns o ps at.used c.args.p at.store.now (subst (λ t. Charting turns o ps at.used c.args.p t at.store.now) all inv.chart),
+    let s = c.args.self.now.signals in
+    let n = count (goal.at.returns-clause-leaves c).After-count_of-2 in
+    let all : c.loop-t.t ≡ 2 ^ s.inputs * 2 ^ s.outputs = omega (arith, c.loop-t-test.false, c.loop-t.auto.t-end) in (
+      inv.left ∙ moves_done _ s.inputs s.outputs _ _ _ _ (omega arith),
+      chart_next _ _ _ _ _ _ (rw all at inv.chart),
     )

@@ -1,14 +1,21 @@
-use Rattle.std.proofs.Common.{◌-◌, ◌<◌, fold, sym, refl, ap, ◌∙◌, arith}
+use Rattle.std.proofs.Common.{◌≡◌, ◌-◌, fold, sym, refl, ap, ◌∙◌, arith}
 use lib.Bits.{bit_and, and_le_l}
 use lib.Count.{count_trailing_zeros}
-use Rattle.rules.specs.Sets.{sets, members, join_and}
+use Rattle.rules.specs.Sets.{too_wide, sets, members, join_and}
+use Rattle.rules.specs.Progress.{set_after}
 use Rattle.compile.specs.Listed.{told}
 use Rattle.compile.specs.Known.{join_duty}
 use Rattle.compile.specs.Played.{played}
+use Rattle.compile.specs.Progressing.{rule, round}
 use Rattle.compile.proofs.GivenLaws.{and_strict}
 use Rattle.compile.proofs.ExpandLaws.{duty_stays, stays_on}
 use Rattle.compile.proofs.AfterLaws.{set_begins, duty_joined, duty_wide, no_duty_left}
 use Rattle.compile.proofs.progress.Progress.set_after.Goals as goal
+use Rattle.compile.proofs.progress.Progress.set_after.Goals.{In-loop-rest}
+
+-- a set is too wide where a duty makes it so
+wide : (c : In-loop-rest) → join_duty (rule c.args.self.now) (round c.args.self.now) (sets c.loop-rest.all) (count_trailing_zeros 32 c.loop-rest.rest) ≡ too_wide → set_after (rule c.args.self.now) (round c.args.self.now) c.args.set ≡ too_wide
+wide c step = sym c.loop-rest.invariant.same ∙ duty_wide _ _ _ _ (omega (arith, c.loop-rest-test.true)) c.loop-rest.invariant.fits step
 
 pub loop-rest-init : goal.loop-rest-init
 loop-rest-init c =
@@ -22,19 +29,12 @@ loop-rest-init c =
 
 pub returns-in_err-one-clause-value : goal.returns-in_err-one-clause-value
 returns-in_err-one-clause-value c =
-    let inv = c.loop-rest.invariant in
     let all = c.loop-rest.all in
-    let some : 0 < c.loop-rest.rest = omega arith in
-    let step = ap (join_and (sets all)) (duty_stays inv.stays (count_trailing_zeros 32 c.loop-rest.rest) ∙ c.in_err-one.ensures.value) ∙ and_strict.right all in
-    sym inv.same ∙ duty_wide c.args.self.now.outline.parts.now (played c.args.self.now.turn) (sets all) c.loop-rest.rest some inv.fits step ∙ ap told (sym c.from_residual.ensures)
+    wide (goal.at.returns-in_err-one-clause-value c).In-loop-rest (ap (join_and (sets all)) (duty_stays c.loop-rest.invariant.stays _ ∙ c.in_err-one.ensures.value) ∙ and_strict.right all) ∙ ap told (sym c.from_residual.ensures)
 
 pub returns-in_err-all-clause-value : goal.returns-in_err-all-clause-value
 returns-in_err-all-clause-value c =
-    let inv = c.loop-rest.invariant in
-    let all = c.loop-rest.all in
-    let some : 0 < c.loop-rest.rest = omega arith in
-    let step = ap (join_and (sets all)) (duty_stays inv.stays (count_trailing_zeros 32 c.loop-rest.rest) ∙ c.in_ok-one.ensures.value) ∙ c.in_err-all.ensures in
-    sym inv.same ∙ duty_wide c.args.self.now.outline.parts.now (played c.args.self.now.turn) (sets all) c.loop-rest.rest some inv.fits step ∙ ap told (sym c.from_residual-in_err-all.ensures)
+    wide (goal.at.returns-in_err-all-clause-value c).In-loop-rest (ap (join_and (sets c.loop-rest.all)) (duty_stays c.loop-rest.invariant.stays _ ∙ c.in_ok-one.ensures.value) ∙ c.in_err-all.ensures) ∙ ap told (sym c.from_residual-in_err-all.ensures)
 
 pub loop-rest-preserved : goal.loop-rest-preserved
 loop-rest-preserved c =
@@ -43,12 +43,11 @@ loop-rest-preserved c =
     let inv = c.loop-rest.invariant in
     let n = c.loop-rest.rest in
     let all = c.loop-rest.all in
-    let some : 0 < n = omega arith in
     let step = ap (join_and (sets all)) (duty_stays inv.stays (count_trailing_zeros 32 n) ∙ c.in_ok-one.ensures.value) ∙ c.in_ok-all.ensures in
     record {
       fits = omega (arith, and_le_l n (n - 1), inv.fits);
       stays = stays_on inv.stays c.duty_after.ensures.stays;
-      same = ap (λ s. fold (join_duty ps r) s (members (bit_and n (n - 1)))) (sym step) ∙ sym (duty_joined ps r (sets all) n some inv.fits) ∙ inv.same;
+      same = ap (λ s. fold (join_duty ps r) s (members (bit_and n (n - 1)))) (sym step) ∙ sym (duty_joined ps r (sets all) n (omega (arith, c.loop-rest-test.true)) inv.fits) ∙ inv.same;
     }
 
 pub returns-clause-value : goal.returns-clause-value

@@ -12,6 +12,6 @@ joint_of-requires g c =
     let a = g.A.Game.meaning c.args.self.now.first in
     let b = g.B.Game.meaning c.args.self.now.second in
     let low : 1 ≤ product a.size b.size = grind (arith, nat_tests) in
-    let s = (g.A.Game.sound c.args.self.now.first).sized.within _ _ _ in
-    let t = (g.B.Game.sound c.args.self.now.second).sized.within _ _ _ in
-    rw (c.low_step-a.ensures, c.low_step-b.ensures, c.size-n.ensures) (joint_fits a.size b.size _ _ low s t)
+    let s : c.low_step-a.result ≤ a.size = omega (arith, (g.A.Game.sound c.args.self.now.first).sized.within) in
+    let t : c.low_step-b.result ≤ b.size = omega (arith, (g.B.Game.sound c.args.self.now.second).sized.within) in
+    rw c.size-n.ensures (joint_fits a.size b.size _ _ low s t)

@@ -5,10 +5,8 @@ use Rattle.reader.proofs.descent.Source.closed.Goals as goal
 
 pub returns-in-Close : goal.returns-in-Close
 returns-in-Close c =
-    let w = c.word_at-t in
-    bracket c.args.self.now c.args.inner w.result w.ensures.peek w.ensures.moves (ap told c.in-Close.is)
+    bracket c.args.self.now c.args.inner c.word_at-t.ensures.peek c.word_at-t.ensures.moves (ap told c.in-Close.is)
 
 pub returns-in_default : goal.returns-in_default
 returns-in_default c =
-    let w = c.word_at-t in
-    no_bracket c.args.self.now c.args.inner w.result w.ensures.peek w.ensures.moves c.refuse.ensures c.in_default.not-Close
+    no_bracket c.args.self.now c.args.inner c.word_at-t.ensures.peek c.word_at-t.ensures.moves c.refuse.ensures c.in_default.not-Close

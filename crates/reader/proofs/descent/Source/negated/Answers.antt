@@ -5,10 +5,8 @@ use Rattle.reader.proofs.descent.Source.negated.Goals as goal
 
 pub returns-in-Name : goal.returns-in-Name
 returns-in-Name c =
-    let w = c.word_at-t in
-    named_comes c.args.self.now c.args.from w.result w.ensures.peek w.ensures.moves c.args.table.now c.literal.new.table c.in-Name.letters.now (ap told c.in-Name.is) c.literal.result c.literal.ensures
+    named_comes c.args.self.now c.word_at-t.ensures.peek c.word_at-t.ensures.moves _ _ (ap told c.in-Name.is) c.literal.result c.literal.ensures
 
 pub returns-in_default : goal.returns-in_default
 returns-in_default c =
-    let w = c.word_at-t in
-    unnamed c.args.self.now c.args.from w.result w.ensures.peek w.ensures.moves c.refuse.ensures c.in_default.not-Name
+    unnamed c.args.self.now c.word_at-t.ensures.peek c.word_at-t.ensures.moves c.refuse.ensures c.in_default.not-Name

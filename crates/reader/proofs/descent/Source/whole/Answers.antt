@@ -8,6 +8,5 @@ pub returns-in_default : goal.returns-in_default
 returns-in_default c =
     let src = c.args.self.now in
     let h = c.in_ok-found.ensures in
-    let w = c.word_at-t in
     let y = passes (names_of src) h.0.derives in
-    stops_later h.0.passed (y.1 []) (no_end src c.in_ok-found.found w.result w.ensures.peek w.ensures.moves c.refuse.ensures c.in_default.not-End h.1 y.0)
+    stops_later h.0.passed (y.1 []) (no_end src c.in_ok-found.found c.word_at-t.ensures.peek c.word_at-t.ensures.moves c.refuse.ensures c.in_default.not-End h.1 y.0)
