@@ -304,4 +304,6 @@ mod tests {
 }
 
 #[cfg(test)]
+mod rules_compiled;
+#[cfg(test)]
 mod texts;

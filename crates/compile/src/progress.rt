@@ -67,6 +67,7 @@ impl<'p> Progress<'p> {
     ghost use Rattle.compile.specs.Progressing.{rule, round, Stays};
 
     // Nothing is worked out of the rule yet.
+    // Kept: each call below says that rule and round stay, since they lie behind the same `&mut self` as what is noted.
     pub(crate) fn of(outline: Outline<'p>) -> Progress<'p>
         ensures { rule result ≡ outline.entry.parts.now }
     {
@@ -99,6 +100,7 @@ impl<'p> Progress<'p> {
     }
 
     // The list of part `k`, from those of its sides.
+    // Kept: the arms of both and either differ in the join alone, and a call through a closure in a recursion gets no proof.
     #[cycle(expanded_list_of)]
     fn expanded(&mut self, k: usize) -> Option<DutyList>
         requires { k < length (rule self.old) }

@@ -14,12 +14,15 @@ pub const USAGE: &str = "usage:
   playbook parts --rule SIGNALS RULE             print the signals and the parts of the rule in the two files
 a SOURCE is
   --diagram FILE                                 the game that the file draws
+  --rule SIGNALS RULE                            the game of the rule in the two files
 Two sources are paired: signal k of the one is signal k of the other.";
 
 // Where a game comes from.
 #[derive(Clone, Copy)]
 pub enum Source<'a> {
     Diagram(&'a str),
+    // the files of the signals and of the rule
+    Rule(&'a str, &'a str),
 }
 
 // One game, or two that are paired.
@@ -111,6 +114,10 @@ impl<'a> Options<'a> {
         while let Some(word) = rest.next() {
             match word.as_str() {
                 "--diagram" => options.add(Source::Diagram(after("--diagram", &mut rest)?))?,
+                "--rule" => {
+                    let signals = after("--rule", &mut rest)?;
+                    options.add(Source::Rule(signals, after("--rule", &mut rest)?))?;
+                }
                 "--book" => options.keep(after("--book", &mut rest)?)?,
                 other => return Err(Misuse::UnknownWord(other)),
             }

@@ -1,5 +1,5 @@
 // The program's commands.
-use crate::args::{Command, Sources, Task, parse};
+use crate::args::{Command, Source, Sources, Task, parse};
 use crate::fault::Fault;
 use crate::moves::Turn;
 use crate::outline::Outline;
@@ -54,16 +54,32 @@ fn run_over<'a>(
     command: Command<'a>,
 ) -> Result<(), Fault<'a>> {
     let Sources { first, second } = sources;
-    let first = Loaded::read(rt, first)?;
+    match Loaded::read(rt, first)? {
+        Loaded::Drawn(drawing) => run_with(rt, drawing.game(second.is_none())?, second, command),
+        Loaded::Ruled(sheet) => run_with(rt, sheet.game(), second, command),
+    }
+}
+
+// The command over the first game, or over it and the second one.
+fn run_with<'a, G: Game + Drop>(
+    rt: &HostRuntime,
+    first: G,
+    second: Option<Source<'a>>,
+    command: Command<'a>,
+) -> Result<(), Fault<'a>> {
     let Some(second) = second else {
-        return obey(rt, command, &first.game()?);
+        return obey(rt, command, &first);
     };
-    let second = Loaded::read(rt, second)?;
-    let pair = Pair {
-        first: first.named_game()?,
-        second: second.named_game()?,
-    };
-    obey(rt, command, &pair)
+    match Loaded::read(rt, second)? {
+        Loaded::Drawn(drawing) => {
+            let second = drawing.game(false)?;
+            obey(rt, command, &Pair { first, second })
+        }
+        Loaded::Ruled(sheet) => {
+            let second = sheet.game();
+            obey(rt, command, &Pair { first, second })
+        }
+    }
 }
 
 fn obey<'a, G: Game>(rt: &HostRuntime, command: Command<'a>, game: &G) -> Result<(), Fault<'a>> {

@@ -1,7 +1,7 @@
 // Why the program ends with status 1, and what it then says on the standard error.
 use crate::args::{Misuse, USAGE};
-use crate::parts::Mark;
 use crate::phrases::Line;
+use crate::texts::Mark;
 use std::alloc::AllocError;
 use std::io;
 use terms::refusal::Refusal;

@@ -13,3 +13,4 @@ mod play;
 mod source;
 mod table;
 mod talk;
+mod texts;
