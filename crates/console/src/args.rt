@@ -17,12 +17,18 @@ a SOURCE is
   --rule SIGNALS RULE                            the game of the rule in the two files
 Two sources are paired: signal k of the one is signal k of the other.";
 
+// The files of a rule: that of its signals, and its own.
+#[derive(Clone, Copy)]
+pub struct RuleFiles<'a> {
+    pub signals: &'a str,
+    pub rule: &'a str,
+}
+
 // Where a game comes from.
 #[derive(Clone, Copy)]
 pub enum Source<'a> {
     Diagram(&'a str),
-    // the files of the signals and of the rule
-    Rule(&'a str, &'a str),
+    Rule(RuleFiles<'a>),
 }
 
 // One game, or two that are paired.
@@ -41,11 +47,11 @@ pub enum Command<'a> {
     Run(&'a str),
 }
 
-// What is to be done: a command over games, or the parts of a rule over signals, each in a file.
+// What is to be done: a command over games, or the parts of a rule.
 #[derive(Clone, Copy)]
 pub enum Task<'a> {
     Over(Sources<'a>, Command<'a>),
-    Parts(&'a str, &'a str),
+    Parts(RuleFiles<'a>),
 }
 
 // Why the words are no command.
@@ -94,7 +100,10 @@ fn parts<'a>(words: &'a [String]) -> Result<Task<'a>, Misuse<'a>> {
         return Err(Misuse::NoRule);
     };
     match flag.as_str() {
-        "--rule" => Ok(Task::Parts(signals.as_str(), rule.as_str())),
+        "--rule" => Ok(Task::Parts(RuleFiles {
+            signals: signals.as_str(),
+            rule: rule.as_str(),
+        })),
         _ => Err(Misuse::NoRule),
     }
 }
@@ -116,7 +125,8 @@ impl<'a> Options<'a> {
                 "--diagram" => options.add(Source::Diagram(after("--diagram", &mut rest)?))?,
                 "--rule" => {
                     let signals = after("--rule", &mut rest)?;
-                    options.add(Source::Rule(signals, after("--rule", &mut rest)?))?;
+                    let rule = after("--rule", &mut rest)?;
+                    options.add(Source::Rule(RuleFiles { signals, rule }))?;
                 }
                 "--book" => options.keep(after("--book", &mut rest)?)?,
                 other => return Err(Misuse::UnknownWord(other)),

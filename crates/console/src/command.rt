@@ -44,7 +44,7 @@ fn report(rt: &HostRuntime, res: Result<(), Fault>) -> ExitCode {
 fn run<'a>(rt: &HostRuntime, words: &'a [String]) -> Result<(), Fault<'a>> {
     match parse(words)? {
         Task::Over(sources, command) => run_over(rt, sources, command),
-        Task::Parts(signals, rule) => show_parts(rt, signals, rule),
+        Task::Parts(files) => show_parts(rt, files),
     }
 }
 

@@ -1,4 +1,5 @@
 // The parts of a rule, printed.
+use crate::args::RuleFiles;
 use crate::fault::Fault;
 use crate::listing::print_texts;
 use crate::texts::RuleTexts;
@@ -7,12 +8,8 @@ use rules::part::Part;
 use words::name::Name;
 
 // Reads the two texts, and prints the signals and the parts of the rule.
-pub(crate) fn show_parts<'a>(
-    rt: &HostRuntime,
-    signals: &'a str,
-    rule: &'a str,
-) -> Result<(), Fault<'a>> {
-    let texts = RuleTexts::read(rt, signals, rule)?;
+pub(crate) fn show_parts<'a>(rt: &HostRuntime, files: RuleFiles<'a>) -> Result<(), Fault<'a>> {
+    let texts = RuleTexts::read(rt, files)?;
     let mut names = [Name::default(); 8];
     let mut parts = [Part::True; 64];
     match read(

@@ -1,5 +1,5 @@
 // Games from where they are kept.
-use crate::args::Source;
+use crate::args::{RuleFiles, Source};
 use crate::fault::Fault;
 use crate::phrases::Line;
 use crate::texts::RuleTexts;
@@ -22,7 +22,7 @@ impl<'a> Loaded<'a> {
     pub(crate) fn read(rt: &HostRuntime, source: Source<'a>) -> Result<Loaded<'a>, Fault<'a>> {
         match source {
             Source::Diagram(file) => Ok(Loaded::Drawn(Drawing::read(rt, file)?)),
-            Source::Rule(signals, rule) => Ok(Loaded::Ruled(Sheet::compiled(rt, signals, rule)?)),
+            Source::Rule(files) => Ok(Loaded::Ruled(Sheet::compiled(rt, files)?)),
         }
     }
 }
@@ -58,8 +58,8 @@ pub struct Sheet {
 }
 
 impl Sheet {
-    fn compiled<'a>(rt: &HostRuntime, signals: &'a str, rule: &'a str) -> Result<Sheet, Fault<'a>> {
-        let texts = RuleTexts::read(rt, signals, rule)?;
+    fn compiled<'a>(rt: &HostRuntime, files: RuleFiles<'a>) -> Result<Sheet, Fault<'a>> {
+        let texts = RuleTexts::read(rt, files)?;
         let mut names = [Name::default(); 8];
         let mut parts = [Part::True; 64];
         let mut positions = vec![in rt.alloc(); Position::unused(); 255]?;

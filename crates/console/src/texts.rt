@@ -1,4 +1,5 @@
 // The two texts of a rule, and the line of one that is refused.
+use crate::args::RuleFiles;
 use crate::fault::Fault;
 use crate::phrases::Line;
 use crate::source::read_file;
@@ -9,23 +10,17 @@ use std::fmt;
 // The texts of the signals and of the rule, with their files.
 #[derive(Drop)]
 pub struct RuleTexts<'a> {
-    signals: &'a str,
-    rule: &'a str,
+    files: RuleFiles<'a>,
     pub named: Vec<u8>,
     pub ruled: Vec<u8>,
 }
 
 impl<'a> RuleTexts<'a> {
-    pub(crate) fn read(
-        rt: &HostRuntime,
-        signals: &'a str,
-        rule: &'a str,
-    ) -> Result<RuleTexts<'a>, Fault<'a>> {
-        let named = read_file(rt, signals)?;
-        let ruled = read_file(rt, rule)?;
+    pub(crate) fn read(rt: &HostRuntime, files: RuleFiles<'a>) -> Result<RuleTexts<'a>, Fault<'a>> {
+        let named = read_file(rt, files.signals)?;
+        let ruled = read_file(rt, files.rule)?;
         Ok(RuleTexts {
-            signals,
-            rule,
+            files,
             named,
             ruled,
         })
@@ -35,9 +30,9 @@ impl<'a> RuleTexts<'a> {
     pub(crate) fn fault(&self, rt: &HostRuntime, misread: Misread) -> Fault<'a> {
         let Misread { text, refusal } = misread;
         let (file, bytes) = match text {
-            Text::Signals => (self.signals, self.named.as_slice()),
-            Text::Rule => (self.rule, self.ruled.as_slice()),
-            Text::Neither => return Fault::RefusedIn(Line(refusal), self.rule),
+            Text::Signals => (self.files.signals, self.named.as_slice()),
+            Text::Rule => (self.files.rule, self.ruled.as_slice()),
+            Text::Neither => return Fault::RefusedIn(Line(refusal), self.files.rule),
         };
         match Mark::at(rt, bytes, refusal.place()) {
             Ok(mark) => Fault::Marked(Line(refusal), file, mark),
