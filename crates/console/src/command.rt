@@ -1,5 +1,5 @@
 // The program's commands.
-use crate::args::{Command, Source, Sources, Task, parse};
+use crate::args::{Command, Sources, Task, parse};
 use crate::fault::Fault;
 use crate::moves::Turn;
 use crate::outline::Outline;
@@ -53,8 +53,12 @@ fn run_over<'a>(
     sources: Sources<'a>,
     command: Command<'a>,
 ) -> Result<(), Fault<'a>> {
-    let Sources { first, second } = sources;
-    match Loaded::read(rt, first)? {
+    let first = Loaded::read(rt, sources.first)?;
+    let second = sources
+        .second
+        .map(|source| Loaded::read(rt, source))
+        .transpose()?;
+    match first {
         Loaded::Drawn(drawing) => run_with(rt, drawing.game(second.is_none())?, second, command),
         Loaded::Ruled(sheet) => run_with(rt, sheet.game(), second, command),
     }
@@ -64,13 +68,13 @@ fn run_over<'a>(
 fn run_with<'a, G: Game + Drop>(
     rt: &HostRuntime,
     first: G,
-    second: Option<Source<'a>>,
+    second: Option<Loaded<'a>>,
     command: Command<'a>,
 ) -> Result<(), Fault<'a>> {
     let Some(second) = second else {
         return obey(rt, command, &first);
     };
-    match Loaded::read(rt, second)? {
+    match second {
         Loaded::Drawn(drawing) => {
             let second = drawing.game(false)?;
             obey(rt, command, &Pair { first, second })
