@@ -11,3 +11,4 @@ pub mod RoundLaws
 pub mod ExploreLaws
 pub mod StoreLaws
 pub mod ChartLaws
+pub mod OutcomeLaws

@@ -1,7 +1,7 @@
 -- What compiling two texts comes to, and what the stores then hold.
 -- built: exploring from the list of a part. Builds: what building comes to. ZeroPositions: a store of zero entries.
--- ReadsAs: the rule that two texts say. Promise: what a compiled rule is. Compiles: the four outcomes.
-use Rattle.std.specs.Prelude.{◌≡◌, ℕ, ◌-◌, ◌≤◌, ◌↔◌, List, [], ◌++◌, length, replicate, Some, Ok, Err, Result}
+-- ReadsAs: the rule that two texts say. Promise: what a compiled rule is. Compiles: the four outcomes. Only: there is one.
+use Rattle.std.specs.Prelude.{◌≡◌, ℕ, ◌-◌, ◌≤◌, ◌↔◌, List, [], ◌++◌, length, replicate, Some, Ok, Err, Result, slice_index, slice_index_or}
 use Rattle.terms.specs.declared.refusal.Refusal.{Refusal}
 use Rattle.terms.specs.declared.refusal.Refusal.TheVariants.{StoreTooShort}
 use Rattle.arena.specs.Arena.{Arena}
@@ -90,3 +90,15 @@ pub data Compiles (names : List Name) (parts : List Part) (store : List Position
   compiles : {c : Numbers} {names' : List Name} {parts' : List Part} {store' : List Position} → Roomy names parts store
       → Served (length names) signals rule c names' parts' store'
       → Compiles names parts store signals rule (Ok c) names' parts' store'
+
+-- the entries of two stores have the same lists, and the same numbers for every round
+abbrev pub SameEntries : List Position → List Position → Type 0
+SameEntries s t = (k : ℕ) → ((slice_index_or s k unused).list ≡ (slice_index_or t k unused).list) × ((j : ℕ) → slice_index (slice_index_or s k unused).moves j ≡ slice_index (slice_index_or t k unused).moves j)
+
+-- the two texts come to nothing else: whatever they come to with stores as long is this result and these stores
+abbrev pub Only : List Name → List Part → List Position → List ℕ → List ℕ → Result Numbers Misread → List Name → List Part → List Position → Type 0
+Only names parts store signals rule r names' parts' store' =
+    (s : Result Numbers Misread) (names'' : List Name) (parts'' : List Part) (store'' : List Position)
+    → length names'' ≡ length names' → length parts'' ≡ length parts' → length store'' ≡ length store'
+    → Compiles names parts store signals rule s names'' parts'' store''
+    → (s ≡ r) × (names'' ≡ names') × (parts'' ≡ parts') × SameEntries store'' store'

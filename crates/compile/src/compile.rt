@@ -2,7 +2,7 @@
 ghost use Rattle.std.specs.Prelude.{◌≡◌, ℕ, ◌<◌, ◌≤◌, length, slice_index_or};
 ghost use Rattle.rules.specs.Parts.{part, Falls, duty_number};
 ghost use Rattle.compile.specs.Positions.{unused as unused_position};
-ghost use Rattle.compile.specs.Compiling.{Builds, Compiles};
+ghost use Rattle.compile.specs.Compiling.{Builds, Compiles, Only};
 
 use crate::compiled::Compiled;
 use crate::explore::explore;
@@ -62,7 +62,8 @@ pub fn compile(
     parts: &mut [Part],
     positions: &mut [Position],
 ) -> Result<Compiled, Misread>
-    ensures { Compiles names.old parts.old positions.old named.now ruled.now result names.new parts.new positions.new }
+    ensures outcome { Compiles names.old parts.old positions.old named.now ruled.now result names.new parts.new positions.new }
+    ensures only { Only names.old parts.old positions.old named.now ruled.now result names.new parts.new positions.new }
 {
     if names.len() < NAMES || parts.len() < PARTS || positions.len() < POSITIONS {
         return Err(unplaced(Refusal::StoreTooShort));

@@ -1,9 +1,12 @@
-use Rattle.std.proofs.Common.{rules, ◌≡◌, length, replicate, arith}
+use Rattle.std.proofs.Common.{rules, ◌≡◌, length, replicate, Err, arith}
+use Rattle.terms.specs.declared.refusal.Refusal.TheVariants.{StoreTooShort}
+use Rattle.reader.specs.declared.texts.Text.TheVariants.{Neither}
 use Rattle.rules.specs.declared.part.Part.TheVariants.{True}
 use Rattle.compile.specs.Positions.{unused}
-use Rattle.compile.specs.Compiling.{Roomy, stores_short, text_refused, rule_refused, compiles}
+use Rattle.compile.specs.Compiling.{Roomy, Compiles, stores_short, text_refused, rule_refused, compiles}
 use Rattle.compile.proofs.GivenLaws.{err_is}
 use Rattle.compile.proofs.CompilingLaws.{BothSay, both_say, all_equal, built_refused, built_served}
+use Rattle.compile.proofs.OutcomeLaws.{only_this}
 use Rattle.compile.proofs.compile.compile.Goals as goal
 use Rattle.compile.proofs.compile.compile.Goals.{Else-positions-lt-POSITIONS, In_ok-texts, then-names-lt-NAMES-via-then-names-lt-NAMES, then-names-lt-NAMES-via-else-names-lt-NAMES+then-parts-lt-PARTS, then-names-lt-NAMES-via-else-names-lt-NAMES+else-parts-lt-PARTS+then-positions-lt-POSITIONS}
 
@@ -17,17 +20,21 @@ said c = both_say _ c.args.parts.now _ _ _ _ _ c.in_ok-texts.ensures
 
 pub returns-then-names-lt-NAMES : goal.returns-then-names-lt-NAMES
 returns-then-names-lt-NAMES c =
-    rw c.unplaced.ensures (stores_short (λ room. elim c.then-names-lt-NAMES.branch [
+    rw c.unplaced.ensures
+    (let h : Compiles c.args.names.now c.args.parts.now c.args.positions.now c.args.named.now c.args.ruled.now (Err (record { text = Neither; refusal = StoreTooShort })) c.args.names.now c.args.parts.now c.args.positions.now = stores_short (λ room. elim c.then-names-lt-NAMES.branch [
       | then-names-lt-NAMES-via-then-names-lt-NAMES w ↦ omega (arith, w.if-names-lt-NAMES.true, room.for_names)
       | then-names-lt-NAMES-via-else-names-lt-NAMES+then-parts-lt-PARTS w ↦ omega (arith, w.if-parts-lt-PARTS.true, room.for_parts)
       | then-names-lt-NAMES-via-else-names-lt-NAMES+else-parts-lt-PARTS+then-positions-lt-POSITIONS w ↦ omega (arith, w.if-positions-lt-POSITIONS.true, room.for_positions)
-    ]))
+    ]) in
+    record { outcome = h; only = only_this h })
 
 pub returns-in_err-texts : goal.returns-in_err-texts
 returns-in_err-texts c =
     let store = c.args.positions.now in
     let filled : c.fill.new.self ≡ replicate (length store) unused = search rules in
-    rw (err_is _ c.from_residual.ensures.1) (text_refused (roomy (goal.at.returns-in_err-texts c).Else-positions-lt-POSITIONS) c.in_err-texts.ensures (all_equal unused (length store) c.fill.new.self filled))
+    rw (err_is _ c.from_residual.ensures.1)
+    (let h = text_refused (roomy (goal.at.returns-in_err-texts c).Else-positions-lt-POSITIONS) c.in_err-texts.ensures (all_equal unused (length store) c.fill.new.self filled) in
+    record { outcome = h; only = only_this h })
 
 pub build-requires-clause-parts : goal.build-requires-clause-parts
 build-requires-clause-parts c =
@@ -37,7 +44,8 @@ build-requires-clause-parts c =
 pub returns-in-Ok : goal.returns-in-Ok
 returns-in-Ok c =
     let g = goal.at.returns-in-Ok c in
-    compiles (roomy g.Else-positions-lt-POSITIONS) (built_served _ _ _ _ _ _ c.build.new.positions (said g.In_ok-texts) c.in-Ok.found c.in-Ok.ensures)
+    let h = compiles (roomy g.Else-positions-lt-POSITIONS) (built_served _ _ _ _ _ _ c.build.new.positions (said g.In_ok-texts) c.in-Ok.found c.in-Ok.ensures) in
+    record { outcome = h; only = only_this h }
 
 pub returns-in-Err : goal.returns-in-Err
 returns-in-Err c =
@@ -45,5 +53,6 @@ returns-in-Err c =
     let b = said g.In_ok-texts in
     let filled : c.fill-in-Err.new.self ≡ replicate (length c.build.new.positions) unused = search rules in
     rw c.unplaced-in-Err.ensures
-    (rule_refused (roomy g.Else-positions-lt-POSITIONS) b.reads_as (built_refused _ _ _ _ _ _ c.build.new.positions b c.in-Err.refusal c.in-Err.ensures)
-    c.clear.ensures (all_equal True _ c.clear_parts.new.parts c.clear_parts.ensures) (all_equal unused _ c.fill-in-Err.new.self filled))
+    (let h = rule_refused (roomy g.Else-positions-lt-POSITIONS) b.reads_as (built_refused _ _ _ _ _ _ c.build.new.positions b c.in-Err.refusal c.in-Err.ensures)
+    c.clear.ensures (all_equal True _ c.clear_parts.new.parts c.clear_parts.ensures) (all_equal unused _ c.fill-in-Err.new.self filled) in
+    record { outcome = h; only = only_this h })

@@ -1,0 +1,4 @@
+// Ten worked examples, which are solved for real.
+#![tactic(auto)]
+
+pub mod example;
