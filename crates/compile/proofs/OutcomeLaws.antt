@@ -125,7 +125,7 @@ module _ {names : List Name} {parts : List Part} {signals rule : List ℕ} (room
       ap (λ x. record { text = Rule'; refusal = x }) (same_refusal e d (cc same) (cc same))
 
   -- and then the two say no rule
-  refused_says : {m : Misread} {n stored : List Name} {p : List Part} {ins outs : List (List ℕ)} {f : Rule} → Both names parts signals rule (Err m) n p → ReadsAs (length names) signals rule stored ins outs f → ⊥
+  pub refused_says : {m : Misread} {n stored : List Name} {p : List Part} {ins outs : List (List ℕ)} {f : Rule} → Both names parts signals rule (Err m) n p → ReadsAs (length names) signals rule stored ins outs f → ⊥
   refused_says (stores_short (inl h)) a = let l = room.0 in omega arith
   refused_says (stores_short (inr h)) a = let l = room.1 in omega arith
   refused_says (signals_refused r o h z) a = cc (outcome_one (length names) signals o a.named)
@@ -140,7 +140,7 @@ module _ {names : List Name} {parts : List Part} {signals rule : List ℕ} (room
 
 -- ---- what the stores hold
 
-ap₃ : {A B C D : Type 0} (f : A → B → C → D) {a a' : A} {b b' : B} {c c' : C} → a ≡ a' → b ≡ b' → c ≡ c' → f a b c ≡ f a' b' c'
+pub ap₃ : {A B C D : Type 0} (f : A → B → C → D) {a a' : A} {b b' : B} {c c' : C} → a ≡ a' → b ≡ b' → c ≡ c' → f a b c ≡ f a' b' c'
 ap₃ f p q r = λ i. f (p i) (q i) (r i)
 
 parts_once : (p q : List Part) → length p ≡ length q → ZeroParts p → ZeroParts q → p ≡ q

@@ -1,19 +1,18 @@
 -- A test of a book against its game, which computes.
 -- shown: where it passes, the game shows the rows.
-use Rattle.std.proofs.Common.{◌≡◌, ℕ, zero, suc, ◌+◌, ◌^◌, ◌<◌, ◌≤◌, Bool, true, false, true≢false, cond, not, ◌&&◌, ◌==◌, List, [], ◌∷◌, length, get_or, take, drop, nat_lt, nat_le, Some, None, Option, refl, sym, ap, ◌∙◌, subst, inl, inr, Decides, eqb-true, ltb-true, leb-true, arith}
-use Rattle.std.proofs.lemmas.Bool.{and_parts, cases_lt, cases_eq, lt-ltb, le-ltb, Decides-not, not_from_Decides}
+use Rattle.std.proofs.Common.{◌≡◌, ℕ, zero, suc, ◌^◌, ◌<◌, Bool, true, false, true≢false, cond, not, ◌&&◌, ◌==◌, List, [], length, get_or, take, drop, nat_lt, nat_le, Some, None, Option, refl, sym, ap, ◌∙◌, inl, inr, Decides, eqb-true, ltb-true, leb-true, le-leb, arith}
+use Rattle.std.proofs.lemmas.Bool.{and_parts, cases_eq, lt-ltb, le-ltb}
+use Rattle.std.proofs.lemmas.Bool.Decides.{Decides-not}
 use Rattle.terms.specs.declared.count.Count.{Count}
 use Rattle.terms.specs.declared.count.Count.TheVariants.{Lost, Limited, Unlimited}
 use Rattle.terms.specs.Best.{Best}
 use Rattle.terms.specs.Order.{AtMost, plus}
 use Rattle.arena.specs.Arena.{Arena, Place, Sound}
-use Rattle.arena.specs.Book.{front, header, entry_at, book_length, IsBook}
-use Rattle.arena.specs.Control.{Proper}
-use Rattle.arena.specs.Values.{Values}
+use Rattle.arena.specs.Book.{front, header, entry_at, book_length}
 use Rattle.arena.proofs.ControlLaws.{values_proper}
 use Rattle.book.specs.Told.{count_told, spoiling_told, answer_told, count_in}
 use Rattle.book.specs.Agreeing.{Follows, Expected, AgreesAt, Agrees}
-use Rattle.book.proofs.ToldLaws.{agrees_right}
+use Rattle.book.proofs.ToldLaws.{agrees_right, told_count_is}
 use Rattle.compile.specs.Same.{same_list_decides}
 use Rattle.rules.specs.Explore.{same_list}
 use Rattle.worked.specs.Worked.{Row, endless, book_of, Shows}
@@ -127,11 +126,11 @@ follows_true Unlimited m f (Some x) e = absurd (true≢false (sym e))
 expects_true : (a : Arena) (bs : List ℕ) (p x y : ℕ) → expects a bs p x y ≡ true → Expected a bs p x y
 unfolding expects
 expects_true a bs p x y e =
-    let f = λ z. count_in bs (a.move p x z) in
-    let m = 2 ^ a.outputs in
+    let f : ℕ → Count = λ z. count_in bs (a.move p x z) in
+    let m : ℕ = 2 ^ a.outputs in
     record {
-      best = λ l. best_true at_most AtMost at_most_decides m f y (sym (ap (λ b. cond b (best at_most m f y) (y == 0)) (lt-ltb x (2 ^ a.inputs) l)) ∙ e);
-      blank = λ l. eqb-true y 0 (sym (ap (λ b. cond b (best at_most m f y) (y == 0)) (le-ltb x (2 ^ a.inputs) l)) ∙ e);
+      best = λ l. best_true at_most AtMost at_most_decides m f y (sym (ap (λ (b : Bool). cond b (best at_most m f y) (y == 0)) (lt-ltb x (2 ^ a.inputs) l)) ∙ e);
+      blank = λ l. eqb-true y 0 (sym (ap (λ (b : Bool). cond b (best at_most m f y) (y == 0)) (le-ltb x (2 ^ a.inputs) l)) ∙ e);
     }
 
 agrees_at_true : (a : Arena) (bs : List ℕ) (p : ℕ) → agrees_at a bs p ≡ true → AgreesAt a bs p
@@ -178,5 +177,5 @@ shown a sound rows e =
       book = b;
       counts = λ k l.
           let told : count_told bs (suc k) ≡ (get_or rows k (endless [])).count = same_count_true _ _ (below_true (length rows) (λ k. same_count (count_told bs (suc k)) (get_or rows k (endless [])).count) u.1 k l) in
-          (values_proper sound b.0 (suc k) _).0 (told_is a b.1 k (let q = size in omega arith) ∙ told);
+          (values_proper sound b.0 (suc k) _).0 (sym (told_count_is a sound b.0 bs b.1 (suc k) (omega arith, omega (arith, size))) ∙ told);
     }

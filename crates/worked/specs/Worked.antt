@@ -1,9 +1,10 @@
 -- Ten worked examples, over one input, door, and one output, lock.
 -- Says: what a text says. Row, book_of: what a book says of its positions. Shows: a game's book and counts.
 -- text, rule, comes_to: each example. Stands, Examples: what is shown of them, in one statement. Works: what the call does.
-use Rattle.std.specs.Prelude.{◌≡◌, ℕ, suc, ◌-◌, ◌<◌, Bool, true, false, cond, List, [], ◌∷◌, ◌++◌, length, drop, flat_map, get_or, replicate, nat_lt, Some, None, Ok, Err, Option, Result}
+-- Gives, Solves, SolvesPair: what its steps do.
+use Rattle.std.specs.Prelude.{◌≡◌, ℕ, suc, ◌-◌, ◌<◌, Bool, true, false, cond, List, [], ◌∷◌, ◌++◌, length, drop, flat_map, get_or, replicate, nat_lt, Some, None, Ok, Err, Option, Result, MatchResult}
 use Rattle.terms.specs.declared.count.Count.{Count}
-use Rattle.terms.specs.declared.count.Count.TheVariants.{Lost, Limited, Unlimited}
+use Rattle.terms.specs.declared.count.Count.TheVariants.{Limited, Unlimited}
 use Rattle.terms.specs.declared.refusal.Refusal.{Refusal}
 use Rattle.terms.specs.declared.refusal.Refusal.TheVariants.{StartLost, StoreTooShort}
 use Rattle.arena.specs.Arena.{Arena}
@@ -11,12 +12,16 @@ use Rattle.arena.specs.Book.{front, IsBook}
 use Rattle.arena.specs.Control.{Proper}
 use Rattle.arena.specs.Diagram.{shape_of, drawn, WellFormed}
 use Rattle.arena.specs.Pair.{pair}
+use Rattle.book.specs.Solving.{Solved, Declined}
 use Rattle.words.specs.declared.name.Name.{Name}
 use Rattle.rules.specs.declared.part.Signal.TheVariants.{Input, Output}
 use Rattle.rules.specs.Rule.{Rule, always, never, literal, next, release, both, either}
 use Rattle.rules.specs.Explore.{compiled}
 use Rattle.rules.specs.Game.{game}
+use Rattle.compile.specs.declared.position.Position.{Position}
+use Rattle.compile.specs.declared.compiled.Compiled.{Compiled as Numbers}
 use Rattle.compile.specs.Positions.{reason}
+use Rattle.compile.specs.TableGame.{arena_in}
 use Rattle.compile.specs.Compiling.{ReadsAs}
 use Rattle.worked.specs.declared.example.Example.{Example}
 use Rattle.worked.specs.declared.example.Example.TheVariants.{True, False, NextFalse, Guard, Follow, Later, Clash, Release, Paired, Drawn}
@@ -170,3 +175,22 @@ Works (Ok rows) before after r =
     cond (nat_lt (length before) (length (book_of rows)))
     ((r ≡ Err StoreTooShort) × (after ≡ before))
     ((r ≡ Ok (length (book_of rows))) × (after ≡ book_of rows ++ drop (length (book_of rows)) before))
+
+-- what compiling a text over the signals gives: the game of the rule that it says, or its refusal
+abbrev pub Gives : List ℕ → Result Numbers Refusal → List Position → Type 0
+Gives rule (Ok c) store = (f : Rule) → Says rule f → (reason (compiled 1 1 f) ≡ None) × (arena_in c store ≡ game 1 1 f)
+Gives rule (Err e) store = (f : Rule) → Says rule f → reason (compiled 1 1 f) ≡ Some e
+
+-- what solving the game of a rule comes to: its refusal, and nothing written; or what solving its game does
+abbrev pub SolvesAs : Option Refusal → Arena → List ℕ → List ℕ → Result ℕ Refusal → Type 0
+SolvesAs (Some e) a before after r = (r ≡ Err e) × (after ≡ before)
+SolvesAs None a before after r = MatchResult r (Solved a before after) (Declined a before after)
+
+abbrev pub Solves : List ℕ → List ℕ → List ℕ → Result ℕ Refusal → Type 0
+Solves rule before after r = (f : Rule) → Says rule f → SolvesAs (reason (compiled 1 1 f)) (game 1 1 f) before after r
+
+-- the same of two rules that compile, paired
+abbrev pub SolvesPair : List ℕ → List ℕ → List ℕ → List ℕ → Result ℕ Refusal → Type 0
+SolvesPair first second before after r =
+    (f g : Rule) → Says first f → Says second g → reason (compiled 1 1 f) ≡ None → reason (compiled 1 1 g) ≡ None
+    → MatchResult r (Solved (pair (game 1 1 f) (game 1 1 g)) before after) (Declined (pair (game 1 1 f) (game 1 1 g)) before after)

@@ -17,6 +17,20 @@ pub enum Example {
     Drawn,
 }
 
+// All of them, in the order in which they are shown.
+pub const ALL: [Example; 10] = [
+    Example::True,
+    Example::False,
+    Example::NextFalse,
+    Example::Guard,
+    Example::Follow,
+    Example::Later,
+    Example::Clash,
+    Example::Release,
+    Example::Paired,
+    Example::Drawn,
+];
+
 impl Example {
     // The text of its rule; a pair and a diagram have none.
     #[tactic(auto, unfolding(crate::specs::Worked::text))]

@@ -2,3 +2,4 @@
 #![tactic(auto)]
 
 pub mod example;
+pub mod solved;
