@@ -1,6 +1,6 @@
 -- Two texts come to one thing.
 -- reads_once: they say one rule. only_this: what they come to is all that they come to.
-use Rattle.std.proofs.Common.{◌≡◌, ℕ, ◌+◌, ◌-◌, ◌*◌, ◌^◌, ◌<◌, ◌≤◌, ◌⊎◌, cond, ◌==◌, List, [], ◌++◌, map, length, get_or, take, replicate, Some, None, Ok, Err, Option, Result, inl, inr, refl, sym, ap, ap₂, ◌∙◌, subst, subst₂, slice_index, arith}
+use Rattle.std.proofs.Common.{◌≡◌, ℕ, ◌+◌, ◌-◌, ◌*◌, ◌^◌, ◌≤◌, cond, ◌==◌, List, [], ◌++◌, map, length, get_or, take, replicate, Some, None, Ok, Err, Option, Result, inl, inr, refl, sym, ap, ap₂, ◌∙◌, subst, subst₂, slice_index, arith}
 use Rattle.std.proofs.lemmas.Bool.{cases_lt}
 use Rattle.std.proofs.lemmas.List.{take_at, length-append, length-map}
 use Rattle.terms.specs.declared.refusal.Refusal.{Refusal}
@@ -18,15 +18,15 @@ use Rattle.rules.specs.Table.{parts_of}
 use Rattle.rules.specs.Explore.{positions, compiled}
 use Rattle.reader.specs.declared.texts.Text.TheVariants.{Neither, Signals, Rule as Rule'}
 use Rattle.reader.specs.declared.texts.Misread.{Misread}
-use Rattle.reader.specs.Faults.{Answer as Said, tree, refusal}
+use Rattle.reader.specs.Faults.{Answer as Said}
 use Rattle.reader.specs.Texts.{RuleText}
-use Rattle.reader.specs.Both.{ZeroParts, Both, stores_short, signals_refused, rule_refused, both_served}
+use Rattle.reader.specs.Both.{ZeroParts, Both, stores_short, signals_refused, rule_refused}
 use Rattle.reader.proofs.TextLaws.{text_one}
 use Rattle.compile.specs.declared.position.Position.{Position}
 use Rattle.compile.specs.declared.compiled.Compiled.{Compiled as Numbers}
 use Rattle.compile.specs.Positions.{unused, reason, Charted}
 use Rattle.compile.specs.Compiling.{ZeroPositions, Roomy, ReadsAs, Served, Compiles, stores_short as short, text_refused, rule_refused as rule_fails, compiles, SameEntries, Only}
-use Rattle.words.specs.Signals.{Outcome, Answer, served, refused}
+use Rattle.words.specs.Signals.{Outcome, served}
 use Rattle.words.proofs.SignalLaws.{outcome_one}
 
 -- the refusal of a number and a place
@@ -80,7 +80,7 @@ known_once : (ins outs : List (List ℕ)) (s t : List Name) → HoldsNames (ins 
 known_once ins outs s t h i =
     let many : length ins + length outs ≡ length (ins ++ outs) = sym (length-append ins outs) in
     let front : take (length ins + length outs) s ≡ take (length ins + length outs) t =
-        ap (λ n. take n s) many ∙ names_front (ins ++ outs) s h ∙ sym (ap (λ n. take n t) many ∙ names_front (ins ++ outs) t i) in
+    ap (λ n. take n s) many ∙ names_front (ins ++ outs) s h ∙ sym (ap (λ n. take n t) many ∙ names_front (ins ++ outs) t i) in
     fun_ext (λ run. ap (signal_at (length ins)) (sought_once s t (length ins + length outs) (name_of run) front))
   where
     sought_once : (s t : List Name) (n : ℕ) (x : Option Name) → take n s ≡ take n t → sought_by s n x ≡ sought_by t n x
@@ -154,10 +154,13 @@ zeros_once s t long h i =
 -- a store with these positions has one list and one number for each round in each entry
 charted_once : (i o : ℕ) (ps : List Part) (found : List (List ℕ)) (s t : List Position) → Charted i o ps found s → Charted i o ps found t → SameEntries s t
 charted_once i o ps found s t c d k = elim (cases_lt k (length found)) [
-  | inl h ↦ (c.lists k h ∙ sym (d.lists k h), λ j. elim (cases_lt j (2 ^ i * 2 ^ o)) [
+  | inl h ↦ (
+    c.lists k h ∙ sym (d.lists k h),
+    λ j. elim (cases_lt j (2 ^ i * 2 ^ o)) [
       | inl l ↦ c.moves k j h l ∙ sym (d.moves k j h l)
       | inr l ↦ c.no_moves k j h l ∙ sym (d.no_moves k j h l)
-    ])
+    ],
+  )
   | inr h ↦ (
       let same : get_or s k unused ≡ get_or t k unused = c.rest k h ∙ sym (d.rest k h) in
       (ap (λ x. x.list) same, λ j. ap (λ x. slice_index x.moves j) same))
@@ -176,8 +179,7 @@ module _ {room : ℕ} {signals rule : List ℕ} where
       let held : HoldsNames (a.ins ++ a.outs) n' = subst₂ (λ u v. HoldsNames (u ++ v) n') e.0 e.1 b.reads.stored_names in
       let tables : (parts_of b.says).table ≡ (parts_of a.says).table = ap (λ f. (parts_of f).table) e.2 in
       let charted : Charted (length a.ins) (length a.outs) (parts_of a.says).table a.found s' =
-          subst₂ (λ u v. Charted (length u) (length v) (parts_of a.says).table a.found s') e.0 e.1 (subst₂ (λ t f. Charted (length b.ins) (length b.outs) t f s') tables same b.charted) in
-      (
+      subst₂ (λ u v. Charted (length u) (length v) (parts_of a.says).table a.found s') e.0 e.1 (subst₂ (λ t f. Charted (length b.ins) (length b.outs) t f s') tables same b.charted) in (
         numbers,
         names_once (a.ins ++ a.outs) n' n ln held a.reads.stored_names,
         b.parts_are ∙ ap₂ (λ t k. t ++ replicate (k - length t) True) tables lp ∙ sym a.parts_are,

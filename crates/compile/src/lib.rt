@@ -5,6 +5,7 @@ pub mod compile;
 pub mod compiled;
 mod explore;
 mod join;
+mod joins;
 pub mod list;
 mod memo;
 mod outline;

@@ -1,35 +1,49 @@
 // Lists that were made before, by the numbers of their parts.
-ghost use Rattle.std.specs.Prelude.{◌≡◌, ◌<◌, replicate, slice_index_or, slice_set};
+ghost use Rattle.std.specs.Prelude.{◌≡◌, ◌<◌, true, false, replicate, slice_set};
+ghost use Rattle.compile.specs.Known.{entry};
 
 use crate::list::DutyList;
 
-// Of each part what its list is, where that is known: none where the list is too wide.
+// Of each part whether its list is known, and what it is: none where it is too wide.
+// Kept: marks beside the lists, since all marks are cleared for each round, and the lists behind them are long.
 #[derive(Clone, Copy)]
 pub(crate) struct Memo {
-    lists: [Option<Option<DutyList>>; 64],
+    known: [bool; 64],
+    lists: [Option<DutyList>; 64],
 }
 
 impl Memo {
     // Nothing is known yet.
     pub(crate) fn new() -> Memo
-        ensures { result.lists ≡ replicate 64 None }
+        ensures { (result.known ≡ replicate 64 false) × (result.lists ≡ replicate 64 None) }
     {
-        Memo { lists: [None; 64] }
+        Memo {
+            known: [false; 64],
+            lists: [None; 64],
+        }
+    }
+
+    // Nothing is known any more.
+    pub(crate) fn clear(&mut self)
+        ensures { (self.new.known ≡ replicate 64 false) × (self.new.lists ≡ self.old.lists) }
+    {
+        self.known = [false; 64];
     }
 
     // What is known of the list of part `k`.
     pub(crate) fn get(&self, k: usize) -> Option<Option<DutyList>>
         requires { k < 64 }
-        ensures { result ≡ slice_index_or self.now.lists k None }
+        ensures { result ≡ entry self.now.known self.now.lists k }
     {
-        self.lists[k]
+        self.known[k].then_some(self.lists[k])
     }
 
     // Notes the list of part `k`.
     pub(crate) fn note(&mut self, k: usize, list: &Option<DutyList>)
         requires { k < 64 }
-        ensures { self.new.lists ≡ slice_set self.old.lists k (Some list.now) }
+        ensures { (self.new.known ≡ slice_set self.old.known k true) × (self.new.lists ≡ slice_set self.old.lists k list.now) }
     {
-        self.lists[k] = Some(*list);
+        self.lists[k] = *list;
+        self.known[k] = true;
     }
 }

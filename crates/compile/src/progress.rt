@@ -8,7 +8,8 @@ ghost use Rattle.compile.specs.Listed.{Gives};
 ghost use Rattle.compile.specs.Known.{Remembers, remembers_prop};
 ghost use Rattle.compile.specs.Played.{played};
 
-use crate::join::{both, either};
+use crate::join::either;
+use crate::joins::Joins;
 use crate::list::DutyList;
 use crate::memo::Memo;
 use crate::outline::Outline;
@@ -44,12 +45,12 @@ fn constant(holds: bool) -> DutyList
 }
 
 // What `a R b` leaves: b after the round, and a after the round or the duty itself.
-fn released(b: &DutyList, a: &DutyList, duty: u8) -> Option<DutyList>
+fn released(joins: &mut Joins, b: &DutyList, a: &DutyList, duty: u8) -> Option<DutyList>
     requires { duty < 32 }
     ensures { Gives result (join_and (sets b.now) (join_or (sets a.now) (own_list duty))) }
 {
     let held = either(a, &DutyList::own(duty))?;
-    both(b, &held)
+    joins.both(b, &held)
 }
 
 // What is worked out of a rule, each once: the lists of its parts, and those of its parts after a round.
@@ -59,8 +60,9 @@ pub(crate) struct Progress<'p> {
     lists: Memo,
     pub(crate) turn: Turn,
     afters: Memo,
-    ghost lists_right: { Remembers (list_of outline.parts.now) lists.lists } by { remembers_prop (list_of outline.parts.now) lists.lists },
-    ghost afters_right: { Remembers (part_after outline.parts.now (played turn)) afters.lists } by { remembers_prop (part_after outline.parts.now (played turn)) afters.lists },
+    joins: Joins,
+    ghost lists_right: { Remembers (list_of outline.parts.now) lists.known lists.lists } by { remembers_prop (list_of outline.parts.now) lists.known lists.lists },
+    ghost afters_right: { Remembers (part_after outline.parts.now (played turn)) afters.known afters.lists } by { remembers_prop (part_after outline.parts.now (played turn)) afters.known afters.lists },
 }
 
 impl<'p> Progress<'p> {
@@ -79,6 +81,7 @@ impl<'p> Progress<'p> {
                 output: 0,
             },
             afters: Memo::new(),
+            joins: Joins::new(),
         }
     }
 
@@ -116,7 +119,7 @@ impl<'p> Progress<'p> {
             Part::Both(a, b) => {
                 let x = self.list_of(a as usize)?;
                 let y = self.list_of(b as usize)?;
-                both(&x, &y)
+                self.joins.both(&x, &y)
             }
             Part::Either(a, b) => {
                 let x = self.list_of(a as usize)?;
@@ -156,12 +159,13 @@ impl<'p> Progress<'p> {
             Part::Release(a, b) => {
                 let y = self.part_after(b as usize)?;
                 let x = self.part_after(a as usize)?;
-                released(&y, &x, self.outline.numbers[k])
+                let duty = self.outline.numbers[k];
+                released(&mut self.joins, &y, &x, duty)
             }
             Part::Both(a, b) => {
                 let x = self.part_after(a as usize)?;
                 let y = self.part_after(b as usize)?;
-                both(&x, &y)
+                self.joins.both(&x, &y)
             }
             Part::Either(a, b) => {
                 let x = self.part_after(a as usize)?;
@@ -195,7 +199,7 @@ impl<'p> Progress<'p> {
         // Kept: a set's next duty is found by its trailing zeros, which is the order that the definitions have.
         while rest != 0 {
             let one = self.duty_after(rest.trailing_zeros())?;
-            all = both(&all, &one)?;
+            all = self.joins.both(&all, &one)?;
             rest &= rest - 1;
         }
         Some(all)
@@ -207,7 +211,7 @@ impl<'p> Progress<'p> {
         ensures stays { rule self.new ≡ rule self.old }
     {
         self.turn = turn;
-        self.afters = Memo::new();
+        self.afters.clear();
         let mut any = DutyList::of_false();
         for set in list.as_slice() {
             let one = self.set_after(*set)?;

@@ -1,4 +1,4 @@
-use Rattle.std.proofs.Common.{◌≡◌, get_or, fold, sym, refl, ap, ◌∙◌, subst}
+use Rattle.std.proofs.Common.{◌≡◌, get_or, fold, sym, refl, ap, ◌∙◌, subst₂}
 use Rattle.rules.specs.Sets.{too_wide, sets, join_or}
 use Rattle.rules.specs.Progress.{list_after}
 use Rattle.compile.specs.Listed.{told}
@@ -16,7 +16,9 @@ wide : (c : In-loop-set) → join_set (rule c.args.self.now) (played c.args.turn
 wide c step = ap (λ xs. list_after (rule c.args.self.now) (played c.args.turn) (sets xs)) (sym c.as_slice-set-items.ensures.sets) ∙ sym c.loop-set.invariant.same ∙ set_wide _ _ _ c.as_slice-set-items.result.now c.loop-set.set-index c.loop-set-test.true step
 
 pub invariant_of-self : goal.invariant_of-self
-invariant_of-self c = record { lists_right = c.args.self.now.lists_right; afters_right = subst (Remembers _) (sym c.new-self.ensures) (remembers_none _) }
+invariant_of-self c =
+    let old = c.args.self.now in
+    record { lists_right = old.lists_right; afters_right = subst₂ (Remembers _) (sym c.clear.ensures.0) (sym c.clear.ensures.1) (remembers_none _ old.afters.lists old.afters_right.long) }
 
 pub loop-set-init : goal.loop-set-init
 loop-set-init c =

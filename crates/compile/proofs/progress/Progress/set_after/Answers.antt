@@ -46,7 +46,7 @@ loop-rest-preserved c =
     let step = ap (join_and (sets all)) (duty_stays inv.stays (count_trailing_zeros 32 n) ∙ c.in_ok-one.ensures.value) ∙ c.in_ok-all.ensures in
     record {
       fits = omega (arith, and_le_l n (n - 1), inv.fits);
-      stays = stays_on inv.stays c.duty_after.ensures.stays;
+      stays = let on = stays_on inv.stays c.duty_after.ensures.stays in record { parts = on.parts; played = on.played };
       same = ap (λ s. fold (join_duty ps r) s (members (bit_and n (n - 1)))) (sym step) ∙ sym (duty_joined ps r (sets all) n (omega (arith, c.loop-rest-test.true)) inv.fits) ∙ inv.same;
     }
 

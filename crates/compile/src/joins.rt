@@ -1,0 +1,84 @@
+// Long joins that were made before.
+ghost use Rattle.std.specs.Prelude.{◌≡◌, ◌<◌, Decides};
+ghost use Rattle.rules.specs.Sets.{sets, join_and};
+ghost use Rattle.compile.specs.Listed.{Gives};
+ghost use Rattle.compile.specs.Known.{gives_prop};
+
+use crate::join::both;
+use crate::list::DutyList;
+
+// How many are kept.
+const SLOTS: usize = 128;
+
+// Two lists, and their "and".
+#[derive(Clone, Copy)]
+struct Made {
+    first: DutyList,
+    second: DutyList,
+    list: Option<DutyList>,
+    ghost right: { Gives list (join_and (sets first) (sets second)) } by { gives_prop list (join_and (sets first) (sets second)) },
+}
+
+impl Made {
+    fn of(first: DutyList, second: DutyList) -> Made
+        ensures { (result.first ≡ first) × (result.second ≡ second) }
+    {
+        let list = both(&first, &second);
+        Made {
+            first,
+            second,
+            list,
+        }
+    }
+
+    // Whether it is the "and" of these two.
+    fn is_of(&self, a: &DutyList, b: &DutyList) -> bool
+        ensures { Decides result ((self.now.first ≡ a.now) × (self.now.second ≡ b.now)) }
+    {
+        self.first.as_slice() == a.as_slice() && self.second.as_slice() == b.as_slice()
+    }
+}
+
+// The number of one of the slots, which two lists share with few others. Any one is right.
+fn slot_of(a: &DutyList, b: &DutyList) -> usize
+    ensures { result < 128 }
+{
+    let first = mixed(0, a.as_slice());
+    mixed(first, b.as_slice()) as usize % SLOTS
+}
+
+// A number that few lists have in common.
+fn mixed(start: u32, sets: &[u32]) -> u32 {
+    sets.iter()
+        .fold(start, |sum, set| sum.wrapping_mul(31) ^ *set)
+}
+
+// The long joins that were made last.
+#[derive(Clone, Copy)]
+pub(crate) struct Joins {
+    made: [Made; SLOTS],
+}
+
+impl Joins {
+    // No join but that of two empty lists.
+    pub(crate) fn new() -> Joins {
+        Joins {
+            made: [Made::of(DutyList::of_false(), DutyList::of_false()); SLOTS],
+        }
+    }
+
+    // Every union of one set from each. A long join is made once while it is kept; a short one takes no longer than to
+    // look for it.
+    pub(crate) fn both(&mut self, a: &DutyList, b: &DutyList) -> Option<DutyList>
+        ensures { Gives result (join_and (sets a.now) (sets b.now)) }
+    {
+        if a.as_slice().len() * b.as_slice().len() <= 64 {
+            return both(a, b);
+        }
+        let slot = slot_of(a, b);
+        if !self.made[slot].is_of(a, b) {
+            self.made[slot] = Made::of(*a, *b);
+        }
+        self.made[slot].list
+    }
+}
