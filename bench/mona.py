@@ -1,9 +1,9 @@
 #!/usr/bin/env python3
-"""Writes the negation of a rule for MONA: mona.py first|second SIGNALS RULE prints a formula of M2L on strings.
+"""Writes the negation of a rule for MONA: mona.py places|sets SIGNALS RULE prints a formula of M2L on strings.
 
 A string is a row of rounds with at least one, its places are 0 to $, and the set variable S_NAME has the places where the
-signal is on. The automaton of the formula accepts a string exactly when the rule fails at its first round. `first` says
-`fails` of docs/RULES.md with quantifiers over places; `second` has a set of places for each part of the rule."""
+signal is on. The automaton of the formula accepts a string exactly when the rule fails at its first round. `places` says
+`fails` of docs/RULES.md with quantifiers over places; `sets` has a set of places for each part of the rule."""
 import itertools
 import pathlib
 import sys
@@ -11,7 +11,7 @@ import sys
 import ltl
 
 
-class First:
+class Places:
     """Quantified places. Each gets a name of its own."""
 
     def __init__(self):
@@ -51,7 +51,7 @@ class First:
         return f"ex1 p: p = 0 & {self.fails(rule, 'p')}"
 
 
-class Second:
+class Sets:
     """A set of places for each part: those where it fails."""
 
     def __init__(self):
@@ -104,7 +104,7 @@ def main():
     way, named, ruled = sys.argv[1:]
     signals = ltl.read_signals(pathlib.Path(named).read_text())
     rule = ltl.read_rule(pathlib.Path(ruled).read_text(), signals[0] + signals[1])
-    print(mona_text(signals, rule, {"first": First, "second": Second}[way]()), end="")
+    print(mona_text(signals, rule, {"places": Places, "sets": Sets}[way]()), end="")
 
 
 if __name__ == "__main__":

@@ -28,7 +28,7 @@ row() { # NAME
     signals=$(dirname "$rule")/signals
     made=$out/$1
     set -- --rule "$signals" "$rule"
-    python3 bench/mona.py first "$signals" "$rule" >"$made.mona"
+    python3 bench/mona.py places "$signals" "$rule" >"$made.mona"
     "$ours" show "$@" >"$made.game"
     mona -q -u -w "$made.mona" >"$made.automaton"
     python3 bench/agree.py "$signals" "$made.game" "$made.automaton" >"$made.pairs"
@@ -44,4 +44,4 @@ row() { # NAME
 
 echo "| Rule | positions | compiled, million instructions | and solved | compiled, ms | and solved | MONA, ms | solved / MONA |"
 echo "|---|---|---|---|---|---|---|---|"
-for name in ${*:-follow most next second within later wide}; do row "$name"; done
+for name in ${*:-follow most next second within later wide broad}; do row "$name"; done
