@@ -1,5 +1,5 @@
 #!/usr/bin/env python3
-"""Makes the diagrams that are measured: make.py FOLDER writes chain.diagram and full.diagram there."""
+"""Makes the diagrams that are measured: make.py FOLDER writes chain.diagram, full.diagram and one.diagram there."""
 import pathlib
 import sys
 
@@ -34,10 +34,16 @@ def full():
     return diagram(4, 4, dense + [last])
 
 
+def one():
+    """One position, to which every round leads back: a chain of 256 records, the lowest round last."""
+    return diagram(4, 4, [[(x, y, 1) for x in reversed(range(16)) for y in reversed(range(16))]])
+
+
 def main():
     folder = pathlib.Path(sys.argv[1])
     (folder / "chain.diagram").write_bytes(chain())
     (folder / "full.diagram").write_bytes(full())
+    (folder / "one.diagram").write_bytes(one())
 
 
 if __name__ == "__main__":

@@ -1,6 +1,7 @@
 #!/bin/sh
-# Counts the instructions that playbook and the plain Rust program execute on the worst diagrams, and prints their ratio.
-# The program is crates/playbook/out/playbook, or the one that PLAYBOOK names. Needs rustc, python3 and valgrind.
+# Counts the instructions that playbook and the plain Rust program execute on the worst diagrams, and prints their ratio; then
+# the time of the slowest pair, and the table of bench/rules.sh.
+# The program is crates/playbook/out/playbook, or the one that PLAYBOOK names. Needs rustc, python3, valgrind and mona.
 set -eu
 cd "$(dirname "$0")/.."
 out=target/bench
@@ -24,3 +25,6 @@ for case in chain full; do
     cmp "$out/$case.ours.table" "$out/$case.plain.table"
     awk -v name=$case -v a="$a" -v b="$b" 'BEGIN { printf "%-6s playbook %.0f, plain %.0f, ratio %.3f\n", name, a, b, a / b }'
 done
+
+echo "chain and one, paired: $(python3 bench/best.py 0 "$ours" solve --diagram "$out/chain.diagram" --diagram "$out/one.diagram") ms"
+PLAYBOOK=$ours bench/rules.sh
