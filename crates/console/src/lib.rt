@@ -3,13 +3,18 @@
 
 mod args;
 pub mod command;
+mod edges;
+mod explain;
 mod fault;
+mod graph;
 mod listing;
 mod moves;
+mod names;
 mod outline;
 mod parts;
 mod phrases;
 mod play;
+mod rounds;
 mod source;
 mod table;
 mod talk;

@@ -28,9 +28,9 @@ impl Outline {
 
 impl fmt::Display for Outline {
     fn fmt<W: fmt::Write>(&self, f: &mut fmt::Formatter<W>) -> fmt::Result {
-        let inputs = Several(self.inputs, "input");
-        let outputs = Several(self.outputs, "output");
-        let positions = Several(self.size, "position");
+        let inputs = Several(u32::from(self.inputs), "input");
+        let outputs = Several(u32::from(self.outputs), "output");
+        let positions = Several(u32::from(self.size), "position");
         let start = self.start;
         write!(f, "game: {inputs}, {outputs}, {positions}, start {start}")
     }
@@ -38,7 +38,7 @@ impl fmt::Display for Outline {
 
 // A number of things: '1 input', '2 inputs'.
 #[derive(Clone, Copy)]
-struct Several(u8, &'static str);
+pub struct Several(pub u32, pub &'static str);
 
 impl fmt::Display for Several {
     fn fmt<W: fmt::Write>(&self, f: &mut fmt::Formatter<W>) -> fmt::Result {
