@@ -4,7 +4,7 @@ use crate::explain::explain;
 use crate::fault::Fault;
 use crate::graph::draw;
 use crate::moves::Turn;
-use crate::names::{GivenNames, Legend};
+use crate::names::GivenNames;
 use crate::outline::Outline;
 use crate::parts::show_parts;
 use crate::play::play;
@@ -15,7 +15,6 @@ use book::accept::accept;
 use book::solve::solve;
 use game::game::{Game, input_count};
 use game::pair::Pair;
-use run::play::Play;
 use std::process::ExitCode;
 use std::{env, fs, io};
 use terms::refusal::Refusal;
@@ -185,34 +184,24 @@ fn show_position<'a, G: Game>(rt: &HostRuntime, game: &G, position: u8) -> Resul
     Ok(())
 }
 
-// Draws the solved game.
+// Solves the game, and prints its graph.
 fn draw_game<'a, G: Game>(
     rt: &HostRuntime,
     game: &G,
     names: GivenNames<'_>,
 ) -> Result<(), Fault<'a>> {
     let book = solved(rt, game)?;
-    let play = Play {
-        game,
-        book: book.as_slice(),
-    };
-    let legend = Legend::of(game, names);
-    draw(rt, &Scene { play, legend })
+    draw(rt, &Scene::of(game, book.as_slice(), names))
 }
 
-// Tells how the game is lost soonest.
+// Solves the game, and tells how it is lost soonest.
 fn explain_game<'a, G: Game>(
     rt: &HostRuntime,
     game: &G,
     names: GivenNames<'_>,
 ) -> Result<(), Fault<'a>> {
     let book = solved(rt, game)?;
-    let play = Play {
-        game,
-        book: book.as_slice(),
-    };
-    let legend = Legend::of(game, names);
-    explain(rt, &Scene { play, legend })
+    explain(rt, &Scene::of(game, book.as_slice(), names))
 }
 
 // Accepts the book in the file, or refuses it.

@@ -1,4 +1,4 @@
-// The edges of a drawn game, and what stands on them.
+// The edges of a game's graph, and what stands on them.
 use crate::names::{Legend, Spelling};
 use crate::rounds::Round;
 use std::fmt;
@@ -56,6 +56,7 @@ impl Edge {
         let mut sets = [0u16; 16];
         let mut drawn = false;
         for Move { round, .. } in moves.iter().filter(|m| m.kind == kind && m.round.to == to) {
+            // inputs and outputs are below 16
             if let Some(set) = sets.get_mut(round.input as usize) {
                 *set |= 1u16.wrapping_shl(u32::from(round.output));
                 drawn = true;
@@ -78,7 +79,7 @@ pub struct Key<'s> {
     pub outputs: u8,
 }
 
-// An edge as a line of a drawing.
+// An edge as a line of the graph.
 #[derive(Clone, Copy)]
 pub struct Arrow<'s> {
     pub edge: Edge,
@@ -123,7 +124,7 @@ impl fmt::Display for Place {
 enum Row {
     Empty,
     Others,
-    Some(u16),
+    These(u16),
 }
 
 impl Row {
@@ -132,7 +133,7 @@ impl Row {
         match set.count_ones() {
             0 => Row::Empty,
             n if n > 1 && n + 1 == u32::from(outputs) => Row::Others,
-            _ => Row::Some(set),
+            _ => Row::These(set),
         }
     }
 }
@@ -212,7 +213,7 @@ impl fmt::Display for Outputs<'_> {
         let set = match self.row {
             Row::Empty => return Ok(()),
             Row::Others => return write!(f, "other"),
-            Row::Some(set) => set,
+            Row::These(set) => set,
         };
         let count = set.count_ones();
         if count > MOST_OUTPUTS {

@@ -1,7 +1,7 @@
 // How a game is lost soonest, told round by round.
 use crate::fault::Fault;
-use crate::outline::{Outline, Several};
-use crate::phrases::Left;
+use crate::outline::Outline;
+use crate::phrases::{Left, Several};
 use crate::rounds::{Round, Scene, answered};
 use book::told::{count_told, spoiling_told};
 use game::game::{Game, input_count};
@@ -22,7 +22,7 @@ pub(crate) fn explain<'a, G: Game>(
     }
 }
 
-// The spoiling inputs from a position with a count, until it is lost.
+// The spoiling play from a start with a count, until it is lost.
 fn tell_loss<'a, G: Game>(
     rt: &HostRuntime,
     scene: &Scene<'_, '_, G>,

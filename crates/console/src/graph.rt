@@ -1,6 +1,4 @@
-// A game drawn for Graphviz.
-ghost use Rattle.std.specs.Prelude.{◌≡◌};
-
+// A solved game as a graph, for Graphviz.
 use crate::edges::{Arrow, Edge, KINDS, Key, Kind, Move};
 use crate::fault::Fault;
 use crate::outline::Outline;
@@ -12,7 +10,7 @@ use run::play::Play;
 use std::alloc::AllocError;
 use terms::count::Count;
 
-// How the drawing looks where nothing else is said, and the mark at the start.
+// How the graph looks where nothing else is said, and the mark at the start.
 const DEFAULTS: &str = "  rankdir=LR
   fontname=Helvetica
   fontsize=10
@@ -20,11 +18,11 @@ const DEFAULTS: &str = "  rankdir=LR
   edge [fontname=Helvetica, fontsize=10]
   start [shape=plaintext, style=\"\"]";
 
-// How it is read, below it.
-const KEY: &str =
+// How the graph is read, as a text below it.
+const CAPTION: &str =
     "labels: input / output, - where nothing is on\\nsolid: the book's answers, red: the spoiling play, dashed: other moves";
 
-// Draws the game with its book: positions, moves, answers and the spoiling play.
+// Prints the game as a graph: positions with their counts, the book's answers, the spoiling play and the other moves.
 pub(crate) fn draw<'a, G: Game>(
     rt: &HostRuntime,
     scene: &Scene<'_, '_, G>,
@@ -32,7 +30,9 @@ pub(crate) fn draw<'a, G: Game>(
     let game = scene.play.game;
     let outline = Outline::of(game);
     let start = outline.start;
-    println!(rt; "digraph game {{\n{DEFAULTS}\n  label=\"{outline}\\n{KEY}\"\n  start -> {start}")?;
+    println!(rt;
+        "digraph game {{\n{DEFAULTS}\n  label=\"{outline}\\n{CAPTION}\"\n  start -> {start}"
+    )?;
     draw_positions(rt, scene.play.book, outline.size)?;
     let edges = edges_of(rt, scene)?;
     if edges.iter().any(|edge| edge.to == 0) {
@@ -72,7 +72,7 @@ fn colour_of(count: Count) -> &'static str {
     }
 }
 
-// Draws the edges of a kind, behind the line that says how they look.
+// Prints the edges of a kind, behind the line that says how they look.
 fn draw_edges<'a>(
     rt: &HostRuntime,
     key: Key<'_>,

@@ -1,6 +1,7 @@
 // A game's numbers, as the first line of what is printed.
 ghost use Rattle.std.specs.Prelude.{◌≡◌};
 
+use crate::phrases::Several;
 use game::game::Game;
 use std::fmt;
 
@@ -33,19 +34,5 @@ impl fmt::Display for Outline {
         let positions = Several(u32::from(self.size), "position");
         let start = self.start;
         write!(f, "game: {inputs}, {outputs}, {positions}, start {start}")
-    }
-}
-
-// A number of things: '1 input', '2 inputs'.
-#[derive(Clone, Copy)]
-pub struct Several(pub u32, pub &'static str);
-
-impl fmt::Display for Several {
-    fn fmt<W: fmt::Write>(&self, f: &mut fmt::Formatter<W>) -> fmt::Result {
-        let Several(n, thing) = *self;
-        match n {
-            1 => write!(f, "1 {thing}"),
-            _ => write!(f, "{n} {thing}s"),
-        }
     }
 }

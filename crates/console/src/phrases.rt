@@ -1,4 +1,4 @@
-// Refusals as lines, and counts in words.
+// Refusals, counts and numbers of things in words.
 use std::fmt;
 use terms::count::Count;
 use terms::refusal::Refusal;
@@ -27,6 +27,20 @@ impl fmt::Display for Left {
             Count::Lost => write!(f, "lost"),
             Count::Limited(n) => write!(f, "count {n}"),
             Count::Unlimited => write!(f, "unlimited"),
+        }
+    }
+}
+
+// A number of things: '1 input', '2 inputs'.
+#[derive(Clone, Copy)]
+pub struct Several(pub u32, pub &'static str);
+
+impl fmt::Display for Several {
+    fn fmt<W: fmt::Write>(&self, f: &mut fmt::Formatter<W>) -> fmt::Result {
+        let Several(n, thing) = *self;
+        match n {
+            1 => write!(f, "1 {thing}"),
+            _ => write!(f, "{n} {thing}s"),
         }
     }
 }

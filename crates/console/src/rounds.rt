@@ -2,7 +2,7 @@
 ghost use Rattle.std.specs.Prelude.{◌≡◌};
 ghost use Rattle.book.specs.Told.{answer_told};
 
-use crate::names::Legend;
+use crate::names::{GivenNames, Legend};
 use book::told::answer_told;
 use game::game::Game;
 use run::play::Play;
@@ -12,6 +12,18 @@ use run::play::Play;
 pub struct Scene<'s, 'n, G> {
     pub play: Play<'s, G>,
     pub legend: Legend<'n>,
+}
+
+impl<'s, 'n, G: Game> Scene<'s, 'n, G> {
+    // The rounds are written by the names of signals that the game's sources give.
+    pub(crate) fn of(game: &'s G, book: &'s [u8], given: GivenNames<'n>) -> Scene<'s, 'n, G>
+        ensures { (result.play.game.now ≡ game.now) × (result.play.book.now ≡ book.now) }
+    {
+        Scene {
+            play: Play { game, book },
+            legend: Legend::of(game, given),
+        }
+    }
 }
 
 // A round: its input, its output, and the position where it leads, 0 where it is lost.
