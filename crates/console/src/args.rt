@@ -9,6 +9,8 @@ use thiserror::Error;
 pub const USAGE: &str = "usage:
   playbook solve SOURCE [SOURCE] [--book FILE]   solve the game, print its table, write its book
   playbook show SOURCE [SOURCE]                  print the game's moves
+  playbook graph SOURCE [SOURCE]                 draw the solved game for Graphviz
+  playbook explain SOURCE [SOURCE]               tell how the game is lost soonest, round by round
   playbook check SOURCE [SOURCE] --book FILE     accept the book, or refuse it
   playbook run SOURCE [SOURCE] --book FILE       play a run: calls on the standard input, an answer line for each
   playbook parts --rule SIGNALS RULE             print the signals and the parts of the rule in the two files
@@ -43,6 +45,8 @@ pub struct Sources<'a> {
 pub enum Command<'a> {
     Solve(Option<&'a str>),
     Show,
+    Graph,
+    Explain,
     Check(&'a str),
     Run(&'a str),
 }
@@ -71,8 +75,8 @@ pub enum Misuse<'a> {
     ThirdSource,
     #[error("a second file for the book is given, '{0}'")]
     SecondBook(&'a str),
-    #[error("show writes no book, and '{0}' is given for one")]
-    NoBookHere(&'a str),
+    #[error("{0} writes no book, and '{1}' is given for one")]
+    NoBookHere(&'a str, &'a str),
     #[error("no book is given")]
     NoBook,
     #[error("parts needs --rule and two files, and nothing else")]
@@ -87,7 +91,9 @@ pub(crate) fn parse<'a>(words: &'a [String]) -> Result<Task<'a>, Misuse<'a>> {
     match verb.as_str() {
         "parts" => parts(rest),
         "solve" => Options::read(rest)?.solve(),
-        "show" => Options::read(rest)?.show(),
+        "show" => Options::read(rest)?.with_no_book("show", Command::Show),
+        "graph" => Options::read(rest)?.with_no_book("graph", Command::Graph),
+        "explain" => Options::read(rest)?.with_no_book("explain", Command::Explain),
         "check" => Options::read(rest)?.with_book(Command::Check),
         "run" => Options::read(rest)?.with_book(Command::Run),
         other => Err(Misuse::UnknownCommand(other)),
@@ -168,10 +174,11 @@ impl<'a> Options<'a> {
         Ok(Task::Over(self.sources()?, Command::Solve(self.book)))
     }
 
-    fn show(&self) -> Result<Task<'a>, Misuse<'a>> {
+    // A command that has no book to write.
+    fn with_no_book(&self, verb: &'a str, command: Command<'a>) -> Result<Task<'a>, Misuse<'a>> {
         match self.book {
-            Some(file) => Err(Misuse::NoBookHere(file)),
-            None => Ok(Task::Over(self.sources()?, Command::Show)),
+            Some(file) => Err(Misuse::NoBookHere(verb, file)),
+            None => Ok(Task::Over(self.sources()?, command)),
         }
     }
 

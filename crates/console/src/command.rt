@@ -1,11 +1,15 @@
 // The program's commands.
 use crate::args::{Command, Sources, Task, parse};
+use crate::explain::explain;
 use crate::fault::Fault;
+use crate::graph::draw;
 use crate::moves::Turn;
+use crate::names::GivenNames;
 use crate::outline::Outline;
 use crate::parts::show_parts;
 use crate::play::play;
-use crate::source::{Loaded, read_file};
+use crate::rounds::Scene;
+use crate::source::{Given, Loaded, read_file};
 use crate::table::Table;
 use book::accept::accept;
 use book::solve::solve;
@@ -26,6 +30,14 @@ pub fn main_of(rt: &HostRuntime) -> ExitCode {
     }
 }
 
+// Obeys several command lines, up to the first that goes wrong, with the word 'then' between them.
+pub fn main_of_each(rt: &HostRuntime) -> ExitCode {
+    match words_of(rt) {
+        Ok(words) => report(rt, run_each(rt, words.as_slice())),
+        Err(error) => report(rt, Err(Fault::NoWords(error))),
+    }
+}
+
 // The words of the command line, the program's own name first.
 fn words_of(rt: &HostRuntime) -> io::Result<Vec<String>> {
     Ok(env::args(rt)?.collect(rt.alloc())?)
@@ -41,6 +53,13 @@ fn report(rt: &HostRuntime, res: Result<(), Fault>) -> ExitCode {
     }
 }
 
+fn run_each<'a>(rt: &HostRuntime, words: &'a [String]) -> Result<(), Fault<'a>> {
+    for line in words.split(|word| word.as_str() == "then") {
+        run(rt, line)?;
+    }
+    Ok(())
+}
+
 fn run<'a>(rt: &HostRuntime, words: &'a [String]) -> Result<(), Fault<'a>> {
     match parse(words)? {
         Task::Over(sources, command) => run_over(rt, sources, command),
@@ -53,14 +72,26 @@ fn run_over<'a>(
     sources: Sources<'a>,
     command: Command<'a>,
 ) -> Result<(), Fault<'a>> {
-    let first = Loaded::read(rt, sources.first)?;
-    let second = sources
-        .second
-        .map(|source| Loaded::read(rt, source))
-        .transpose()?;
-    match first {
-        Loaded::Drawn(drawing) => run_with(rt, drawing.game(second.is_none())?, second, command),
-        Loaded::Ruled(sheet) => run_with(rt, sheet.game(), second, command),
+    let given = Given::read(rt, sources)?;
+    let second = given.second.as_ref();
+    let errand = Errand::over(command, &given);
+    match &given.first {
+        Loaded::Drawn(drawing) => run_with(rt, drawing.game(second.is_none())?, second, errand),
+        Loaded::Ruled(sheet) => run_with(rt, sheet.game(), second, errand),
+    }
+}
+
+// A command, with the names of signals that the two sources give.
+#[derive(Clone, Copy)]
+struct Errand<'a, 'n> {
+    command: Command<'a>,
+    names: GivenNames<'n>,
+}
+
+impl<'a, 'n> Errand<'a, 'n> {
+    fn over(command: Command<'a>, given: &'n Given<'a>) -> Errand<'a, 'n> {
+        let names = given.names();
+        Errand { command, names }
     }
 }
 
@@ -68,31 +99,41 @@ fn run_over<'a>(
 fn run_with<'a, G: Game + Drop>(
     rt: &HostRuntime,
     first: G,
-    second: Option<Loaded<'a>>,
-    command: Command<'a>,
+    second: Option<&Loaded<'a>>,
+    errand: Errand<'a, '_>,
 ) -> Result<(), Fault<'a>> {
     let Some(second) = second else {
-        return obey(rt, command, &first);
+        return obey(rt, errand, &first);
     };
     match second {
         Loaded::Drawn(drawing) => {
             let second = drawing.game(false)?;
-            obey(rt, command, &Pair { first, second })
+            obey(rt, errand, &Pair { first, second })
         }
         Loaded::Ruled(sheet) => {
             let second = sheet.game();
-            obey(rt, command, &Pair { first, second })
+            obey(rt, errand, &Pair { first, second })
         }
     }
 }
 
-fn obey<'a, G: Game>(rt: &HostRuntime, command: Command<'a>, game: &G) -> Result<(), Fault<'a>> {
-    match command {
+fn obey<'a, G: Game>(rt: &HostRuntime, errand: Errand<'a, '_>, game: &G) -> Result<(), Fault<'a>> {
+    match errand.command {
         Command::Solve(file) => solve_game(rt, game, file),
         Command::Show => show_game(rt, game),
+        Command::Graph => draw_game(rt, game, errand.names),
+        Command::Explain => explain_game(rt, game, errand.names),
         Command::Check(file) => check_book(rt, game, file),
         Command::Run(file) => run_game(rt, game, file),
     }
+}
+
+// The game's book.
+fn solved<'a, G: Game>(rt: &HostRuntime, game: &G) -> Result<Vec<u8>, Fault<'a>> {
+    let mut book = vec![in rt.alloc(); 0u8; LONGEST]?;
+    let length = solve(game, book.as_mut_slice())?;
+    book.truncate(length);
+    Ok(book)
 }
 
 // Solves the game, prints the table, and writes the book where a file is named for it.
@@ -102,12 +143,11 @@ fn solve_game<'a, G: Game>(
     game: &G,
     file: Option<&'a str>,
 ) -> Result<(), Fault<'a>> {
-    let mut store = vec![in rt.alloc(); 0u8; LONGEST]?;
-    let length = solve(game, store.as_mut_slice())?;
-    let book = store.as_slice().get(..length).unwrap_or(&[]);
+    let book = solved(rt, game)?;
+    let length = book.len();
     let outline = Outline::of(game);
     let table = Table {
-        book,
+        book: book.as_slice(),
         size: game.size(),
         inputs: input_count(game),
     };
@@ -115,7 +155,7 @@ fn solve_game<'a, G: Game>(
     let Some(file) = file else {
         return Ok(());
     };
-    fs::write(rt, file, book).map_err(|error| Fault::Unwritten(file, error))
+    fs::write(rt, file, book.as_slice()).map_err(|error| Fault::Unwritten(file, error))
 }
 
 // Prints the game's moves.
@@ -142,6 +182,26 @@ fn show_position<'a, G: Game>(rt: &HostRuntime, game: &G, position: u8) -> Resul
         println!(rt; "  input {input}: {turn}")?;
     }
     Ok(())
+}
+
+// Solves the game, and prints its graph.
+fn draw_game<'a, G: Game>(
+    rt: &HostRuntime,
+    game: &G,
+    names: GivenNames<'_>,
+) -> Result<(), Fault<'a>> {
+    let book = solved(rt, game)?;
+    draw(rt, &Scene::of(game, book.as_slice(), names))
+}
+
+// Solves the game, and tells how it is lost soonest.
+fn explain_game<'a, G: Game>(
+    rt: &HostRuntime,
+    game: &G,
+    names: GivenNames<'_>,
+) -> Result<(), Fault<'a>> {
+    let book = solved(rt, game)?;
+    explain(rt, &Scene::of(game, book.as_slice(), names))
 }
 
 // Accepts the book in the file, or refuses it.

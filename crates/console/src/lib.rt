@@ -3,13 +3,18 @@
 
 mod args;
 pub mod command;
+mod edges;
+mod explain;
 mod fault;
+mod graph;
 mod listing;
 mod moves;
+mod names;
 mod outline;
 mod parts;
 pub mod phrases;
 mod play;
+mod rounds;
 mod source;
 pub mod table;
 mod talk;

@@ -1,8 +1,8 @@
 // A rule's signals and parts, line by line.
 use crate::fault::Fault;
+use crate::names::Names;
 use reader::texts::Texts;
-use rules::part::{Part, Signal};
-use std::alloc::AllocError;
+use rules::part::Part;
 use std::fmt;
 use words::name::Name;
 
@@ -13,9 +13,9 @@ pub(crate) fn print_texts<'a>(
     parts: &[Part],
     texts: Texts,
 ) -> Result<(), Fault<'a>> {
-    let names = Names::of(rt, names, texts.signals.inputs)?;
-    print_signals(rt, &names, "input", texts.signals.inputs, Signal::Input)?;
-    print_signals(rt, &names, "output", texts.signals.outputs, Signal::Output)?;
+    let names = Names::of(rt, names, texts.signals)?;
+    print_signals(rt, "input", names.inputs.as_slice())?;
+    print_signals(rt, "output", names.outputs.as_slice())?;
     print_parts(
         rt,
         &names,
@@ -28,17 +28,8 @@ pub(crate) fn print_texts<'a>(
 }
 
 // Prints a line for each signal of a kind.
-fn print_signals<'a, F: Fn(u8) -> Signal>(
-    rt: &HostRuntime,
-    names: &Names,
-    kind: &str,
-    count: u8,
-    signal: F,
-) -> Result<(), Fault<'a>>
-    requires { F.IsAlwaysCallable signal }
-{
-    for k in 0..count {
-        let name = names.name(signal(k));
+fn print_signals<'a>(rt: &HostRuntime, kind: &str, names: &[String]) -> Result<(), Fault<'a>> {
+    for (k, name) in names.iter().enumerate() {
         println!(rt; "{kind} {k}: {name}")?;
     }
     Ok(())
@@ -57,33 +48,6 @@ fn print_parts<'a>(rt: &HostRuntime, names: &Names, parts: &[Part]) -> Result<()
         }
     }
     Ok(())
-}
-
-// The names of the signals, the inputs first.
-#[derive(Drop)]
-struct Names {
-    inputs: u8,
-    texts: Vec<String>,
-}
-
-impl Names {
-    fn of(rt: &HostRuntime, names: &[Name], inputs: u8) -> Result<Names, AllocError> {
-        let mut texts = Vec::new(rt.alloc());
-        for name in names {
-            // zeros stand behind a name
-            let bytes = name.bytes.split(|b| *b == 0).next().unwrap_or(&[]);
-            texts.push(String::from_utf8_lossy(rt.alloc(), bytes)?)?;
-        }
-        Ok(Names { inputs, texts })
-    }
-
-    fn name(&self, signal: Signal) -> &str {
-        let k = match signal {
-            Signal::Input(k) => k as usize,
-            Signal::Output(k) => self.inputs as usize + k as usize,
-        };
-        self.texts.get(k).map_or("", |name| name.as_str())
-    }
 }
 
 // What a part is, by the numbers of its sides.

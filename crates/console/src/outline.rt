@@ -1,6 +1,7 @@
 // A game's numbers, as the first line of what is printed.
 ghost use Rattle.std.specs.Prelude.{◌≡◌};
 
+use crate::phrases::Several;
 use game::game::Game;
 use std::fmt;
 
@@ -28,24 +29,10 @@ impl Outline {
 
 impl fmt::Display for Outline {
     fn fmt<W: fmt::Write>(&self, f: &mut fmt::Formatter<W>) -> fmt::Result {
-        let inputs = Several(self.inputs, "input");
-        let outputs = Several(self.outputs, "output");
-        let positions = Several(self.size, "position");
+        let inputs = Several(u32::from(self.inputs), "input");
+        let outputs = Several(u32::from(self.outputs), "output");
+        let positions = Several(u32::from(self.size), "position");
         let start = self.start;
         write!(f, "game: {inputs}, {outputs}, {positions}, start {start}")
-    }
-}
-
-// A number of things: '1 input', '2 inputs'.
-#[derive(Clone, Copy)]
-struct Several(u8, &'static str);
-
-impl fmt::Display for Several {
-    fn fmt<W: fmt::Write>(&self, f: &mut fmt::Formatter<W>) -> fmt::Result {
-        let Several(n, thing) = *self;
-        match n {
-            1 => write!(f, "1 {thing}"),
-            _ => write!(f, "{n} {thing}s"),
-        }
     }
 }

@@ -1,6 +1,7 @@
 // Games from where they are kept.
-use crate::args::{RuleFiles, Source};
+use crate::args::{RuleFiles, Source, Sources};
 use crate::fault::Fault;
+use crate::names::{GivenNames, Names};
 use crate::phrases::Line;
 use crate::texts::RuleTexts;
 use compile::compile::compile;
@@ -10,6 +11,31 @@ use game::diagram::Diagram;
 use rules::part::Part;
 use std::fs;
 use words::name::Name;
+use words::signals::Signals;
+
+// One source or two, read.
+#[derive(Drop)]
+pub struct Given<'a> {
+    pub first: Loaded<'a>,
+    pub second: Option<Loaded<'a>>,
+}
+
+impl<'a> Given<'a> {
+    pub(crate) fn read(rt: &HostRuntime, sources: Sources<'a>) -> Result<Given<'a>, Fault<'a>> {
+        let first = Loaded::read(rt, sources.first)?;
+        let second = sources
+            .second
+            .map(|source| Loaded::read(rt, source))
+            .transpose()?;
+        Ok(Given { first, second })
+    }
+
+    // The names that they give.
+    pub(crate) fn names(&self) -> GivenNames<'_> {
+        let second = self.second.as_ref();
+        [self.first.names(), second.and_then(|loaded| loaded.names())]
+    }
+}
 
 // A source, read.
 #[derive(Drop)]
@@ -19,10 +45,18 @@ pub enum Loaded<'a> {
 }
 
 impl<'a> Loaded<'a> {
-    pub(crate) fn read(rt: &HostRuntime, source: Source<'a>) -> Result<Loaded<'a>, Fault<'a>> {
+    fn read(rt: &HostRuntime, source: Source<'a>) -> Result<Loaded<'a>, Fault<'a>> {
         match source {
             Source::Diagram(file) => Ok(Loaded::Drawn(Drawing::read(rt, file)?)),
             Source::Rule(files) => Ok(Loaded::Ruled(Sheet::compiled(rt, files)?)),
+        }
+    }
+
+    // The names of its signals, where a rule gives them.
+    fn names(&self) -> Option<&Names> {
+        match self {
+            Loaded::Drawn(_) => None,
+            Loaded::Ruled(sheet) => Some(&sheet.names),
         }
     }
 }
@@ -50,10 +84,11 @@ impl<'a> Drawing<'a> {
     }
 }
 
-// A rule that is compiled: its numbers, and the store of its positions.
+// A rule that is compiled: its numbers, the names of its signals, and the store of its positions.
 #[derive(Drop)]
 pub struct Sheet {
     numbers: Compiled,
+    names: Names,
     positions: Vec<Position>,
 }
 
@@ -63,16 +98,26 @@ impl Sheet {
         let mut names = [Name::default(); 8];
         let mut parts = [Part::True; 64];
         let mut positions = vec![in rt.alloc(); Position::unused(); 255]?;
-        match compile(
+        let numbers = match compile(
             texts.named.as_slice(),
             texts.ruled.as_slice(),
             &mut names,
             &mut parts,
             positions.as_mut_slice(),
         ) {
-            Ok(numbers) => Ok(Sheet { numbers, positions }),
-            Err(misread) => Err(texts.fault(rt, misread)),
-        }
+            Ok(numbers) => numbers,
+            Err(misread) => return Err(texts.fault(rt, misread)),
+        };
+        let signals = Signals {
+            inputs: numbers.inputs,
+            outputs: numbers.outputs,
+        };
+        let names = Names::of(rt, &names, signals)?;
+        Ok(Sheet {
+            numbers,
+            names,
+            positions,
+        })
     }
 
     // The rule's game.

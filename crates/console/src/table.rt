@@ -1,7 +1,7 @@
 // A book's table, as it is printed.
+use crate::phrases::Left;
 use book::told::{answer_told, count_told, spoiling_told};
 use std::fmt;
-use terms::count::Count;
 
 // The book of a game with so many positions, and with so many inputs to a round.
 #[derive(Clone, Copy)]
@@ -34,10 +34,10 @@ struct Row<'a> {
 impl fmt::Display for Row<'_> {
     fn fmt<W: fmt::Write>(&self, f: &mut fmt::Formatter<W>) -> fmt::Result {
         let Table { book, inputs, .. } = self.table;
-        let held = Held(count_told(book, self.position));
-        write!(f, "{held}")?;
-        if let Some(x) = spoiling_told(book, self.position) {
-            write!(f, ", spoiling input {x}")?;
+        let left = Left(count_told(book, self.position));
+        match spoiling_told(book, self.position) {
+            Some(x) => write!(f, "limited, {left}, spoiling input {x}")?,
+            None => write!(f, "{left}")?,
         }
         write!(f, ", answers")?;
         for x in 0..inputs {
@@ -45,19 +45,5 @@ impl fmt::Display for Row<'_> {
             write!(f, " {answer}")?;
         }
         Ok(())
-    }
-}
-
-// How long a position can be held: its status, and its count where that is limited.
-#[derive(Clone, Copy)]
-struct Held(Count);
-
-impl fmt::Display for Held {
-    fn fmt<W: fmt::Write>(&self, f: &mut fmt::Formatter<W>) -> fmt::Result {
-        match self.0 {
-            Count::Lost => write!(f, "lost"),
-            Count::Limited(n) => write!(f, "limited, count {n}"),
-            Count::Unlimited => write!(f, "unlimited"),
-        }
     }
 }
