@@ -1,8 +1,8 @@
 -- The list of a part, and a part after a round, from their sides; what a memory of lists says.
-use Rattle.std.proofs.Common.{◌≡◌, ℕ, ◌<◌, Bool, true, false, cond, ◌⊎◌, inl, inr, List, Some, None, Option, length, get_or, set, replicate, sym, refl, ap, ap₂, ◌∙◌, subst, ⊎_elim, length-set, get_or-set_same, get_or-set_other, arith}
+use Rattle.std.proofs.Common.{◌≡◌, ℕ, ◌<◌, Bool, true, false, cond, ◌⊎◌, inl, inr, List, Some, None, Option, length, get_or, replicate, sym, refl, ap, ◌∙◌, subst, ⊎_elim, arith}
 use lib.ListN.{length-replicate}
 use Rattle.std.proofs.lemmas.List.{get_or-replicate, get_or_past}
-use Rattle.std.proofs.lemmas.Bool.{cases_lt, cases_eq}
+use Rattle.std.proofs.lemmas.Bool.{cases_lt}
 use Rattle.rules.specs.declared.part.Part.{Part}
 use Rattle.rules.specs.declared.part.Part.TheVariants.{Literal, Next, Release}
 use Rattle.rules.specs.declared.part.Signal.{Signal}
@@ -13,7 +13,6 @@ use Rattle.rules.proofs.PartLaws.{duty_below}
 use Rattle.rules.proofs.StepLaws.{list_step, after_step}
 use Rattle.compile.specs.declared.outline.Outline.{Outline}
 use Rattle.compile.specs.declared.progress.Progress.{Progress}
-use Rattle.compile.specs.Listed.{told}
 use Rattle.compile.specs.Known.{Knows, Remembers}
 use Rattle.compile.specs.Progressing.{rule, round, Stays}
 
@@ -73,21 +72,4 @@ remembers_none f lists long = record {
   marks = refl;
   long = long;
   right = λ k. subst (λ b. Knows (f k) (cond b (Some (get_or lists k None)) None)) (sym (getD_equal 64 k false)) tt;
-}
-
--- one entry more is known
-pub remembers_more : (f : ℕ → Sets) (known : List Bool) (lists : List (Option (List ℕ))) (k : ℕ) (l : Option (List ℕ)) → k < 64 → f k ≡ told l → Remembers f known lists → Remembers f (set known k true) (set lists k l)
-remembers_more f known lists k l inside is r = record {
-  marks = length-set known k true ∙ r.marks;
-  long = length-set lists k l ∙ r.long;
-  right = λ j. elim (cases_eq j k) [
-    | inl e ↦ rw e (
-        let here : get_or (set known k true) k false ≡ true = get_or-set_same known k true false (omega (arith, r.marks)) in
-        let list : get_or (set lists k l) k None ≡ l = get_or-set_same lists k l None (omega (arith, r.long)) in
-        subst (λ x. Knows (f k) x) (sym (ap₂ (λ b x. cond b (Some x) None) here list)) is)
-    | inr ne ↦ (
-        let here : get_or (set known k true) j false ≡ get_or known j false = get_or-set_other known k j true false ne in
-        let list : get_or (set lists k l) j None ≡ get_or lists j None = get_or-set_other lists k j l None ne in
-        subst (λ x. Knows (f j) x) (sym (ap₂ (λ b x. cond b (Some x) None) here list)) (r.right j))
-  ];
 }
