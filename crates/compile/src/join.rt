@@ -91,15 +91,17 @@ fn both_in(xs: &[u32], ys: &[u32], room: &mut [u32]) -> Option<DutyList>
 }
 
 // Every union of one set from each.
+// Kept: the cases tell lists apart by their lengths, as most lists have one set or none and need no sorting; and of the
+// others most are short, and clearing the long room costs more than the join.
 pub(crate) fn both(a: &DutyList, b: &DutyList) -> Option<DutyList>
     ensures { Gives result (join_and (sets a.now) (sets b.now)) }
 {
     let xs = a.as_slice();
     let ys = b.as_slice();
-    // Most lists are short, and clearing the long room costs more than the join.
-    if xs.len() * ys.len() <= 64 {
-        both_in(xs, ys, &mut [0; 64])
-    } else {
-        both_in(xs, ys, &mut [0; 1024])
+    match xs.len() * ys.len() {
+        0 => Some(DutyList::of_false()),
+        1 => Some(DutyList::alone(xs[0] | ys[0])),
+        2..=64 => both_in(xs, ys, &mut [0; 64]),
+        _ => both_in(xs, ys, &mut [0; 1024]),
     }
 }

@@ -8,7 +8,7 @@ use crate::join::both;
 use crate::list::DutyList;
 
 // How many are kept.
-const SLOTS: usize = 128;
+const SLOTS: usize = 512;
 
 // Two lists, and their "and".
 #[derive(Clone, Copy)]
@@ -41,7 +41,7 @@ impl Made {
 
 // The number of one of the slots, which two lists share with few others. Any one is right.
 fn slot_of(a: &DutyList, b: &DutyList) -> usize
-    ensures { result < 128 }
+    ensures { result < 512 }
 {
     let first = mixed(0, a.as_slice());
     mixed(first, b.as_slice()) as usize % SLOTS

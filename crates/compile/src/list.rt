@@ -35,7 +35,7 @@ impl Model for DutyList {
 
 impl DutyList {
     // The list with one set.
-    fn alone(set: u32) -> DutyList
+    pub(crate) fn alone(set: u32) -> DutyList
         ensures { result ≡ set ∷ [] }
     {
         let mut sets = [0; 32];
