@@ -18,23 +18,63 @@ const SERVED: [(&str, u8); 8] = [
     ("G(!door|XXXXXXX lock)", 128),
 ];
 
-// A rule over them, and the number and place of its refusal.
-const REFUSED: [(&str, (u8, usize)); 4] = [
+// A rule over them, and the number and place of its refusal. The rule with 12 has a list for each row of eight rounds
+// with the door on or off, which are 256.
+const REFUSED: [(&str, (u8, usize)); 6] = [
     ("false", (10, 0)),
     ("door & !door & false", (10, 0)),
+    ("G lock & false", (10, 0)),
+    ("(lock | false) & (false | false)", (10, 0)),
     ("G(!door|XXXXXXXX lock)", (12, 0)),
     ("lock & luck", (5, 7)),
 ];
 
-// Six units that each hold now or in the next round: 64 sets of duties.
-const WIDE: &str = "(a|Xa) & (b|Xb) & (c|Xc) & (d|Xd) & (e|Xe) & (f|Xf)";
+// Five units that each hold now or in the next round: 32 sets of duties. Six: 64.
+const FIVE: &str = "(a|Xa) & (b|Xb) & (c|Xc) & (d|Xd) & (e|Xe)";
+
+const SIX: &str = "(a|Xa) & (b|Xb) & (c|Xc) & (d|Xd) & (e|Xe) & (f|Xf)";
+
+// What stands behind the five units, and what the rule comes to. The width is judged at every step, from the left.
+const BEHIND_FIVE: [(&str, Outcome); 9] = [
+    ("", Ok(33)), // the start, and then a list for all of a to e that were off, which is one of 32 sets of them
+    ("|f", Err((11, 0))), // 33 sets
+    ("|a", Ok(18)), // a, and 16 sets with X a: those with a are dropped; then true, or a and any of b to e
+    ("|a|f", Ok(18)), // 18 sets, and the same after a round
+    ("|f|a", Err((11, 0))), // 33 sets before the 18
+    ("|f|true", Err((11, 0))), // 33 sets before one
+    ("|true|f", Ok(1)), // the empty set drops all others
+    ("&(f|Xf)&false", Err((11, 0))), // 64 sets before none
+    ("&false&(f|Xf)", Err((10, 0))), // none, from then on
+];
+
+// What stands in front of the six units in brackets, and what the rule comes to. A list that is too wide refuses what
+// needs it, though another side asks for nothing, or for what cannot be; behind an X only a round needs it.
+const BEFORE_SIX: [(&str, Outcome); 10] = [
+    ("", Err((11, 0))),
+    ("true | ", Err((11, 0))),
+    ("false & ", Err((11, 0))),
+    ("true | X", Ok(1)),
+    ("X", Err((11, 1))),
+    ("X false & X", Err((11, 1))),
+    ("XX", Err((11, 2))),
+    ("!a | XX", Err((11, 3))), // position 2 is that of true, found first, where a is off
+    // Seven rounds with a on or off lead to the positions 128 to 255; 128 is the first that meets the six units, or
+    // the first that meets a 256th list where they come one round later.
+    ("G(!a|XXXXXXXX f) & XXXXXXXX", Err((11, 128))),
+    ("G(!a|XXXXXXXX f) & XXXXXXXXX", Err((12, 0))),
+];
+
+// All of e to h in two rounds, and of e and f in a third, beside 32 sets of the same duties of a to d; and the other way
+// round. Each of the 1,024 unions of a set from each side is the set of all duties: one set is left.
+const ONE_OF_MANY: &str =
+    "(e&Xe & f&Xf & g&Xg & h&Xh & XXe&XXf & (a|Xa)&(b|Xb)&(c|Xc)&(d|Xd)&(XXa|XXb))
+    & (a&Xa & b&Xb & c&Xc & d&Xd & XXa&XXb & (e|Xe)&(f|Xf)&(g|Xg)&(h|Xh)&(XXe|XXf))";
 
 // How many positions, or the number and place of the refusal.
-fn outcome(
-    heap: Global,
-    named: &[u8],
-    ruled: &[u8],
-) -> Result<Result<u8, (u8, usize)>, AllocError> {
+type Outcome = Result<u8, (u8, usize)>;
+
+// What the texts come to.
+fn outcome(heap: Global, named: &[u8], ruled: &[u8]) -> Result<Outcome, AllocError> {
     let mut names = [Name::default(); 8];
     let mut parts = [Part::True; 64];
     let mut positions = vec![in heap; Position::unused(); 255]?;
@@ -69,18 +109,35 @@ fn rules_are_refused(rt: HostRuntime) -> Result<(), Fail> {
     Ok(())
 }
 
-// A list that is too wide refuses what needs it, though another side asks for nothing; behind an X it is not needed.
 #[test]
-fn wide_lists_are_refused(rt: HostRuntime) -> Result<(), Fail> {
+fn width_is_judged_at_every_step(rt: HostRuntime) -> Result<(), Fail> {
     let heap = rt.alloc();
-    let named = b"in a b c d out e f";
-    assert_eq!(rt; outcome(heap, named, WIDE.as_bytes())?, Err((11, 0)));
-    let beside = format!(in heap; "true | ({WIDE})")?;
-    assert_eq!(rt;
-        outcome(heap, named, beside.as_str().as_bytes())?,
-        Err((11, 0))
-    );
-    let behind = format!(in heap; "true | X({WIDE})")?;
-    assert_eq!(rt; outcome(heap, named, behind.as_str().as_bytes())?, Ok(1));
+    for (behind, expected) in BEHIND_FIVE {
+        let rule = format!(in heap; "{FIVE}{behind}")?;
+        let got = outcome(heap, b"in a b c d out e f", rule.as_str().as_bytes())?;
+        assert_eq!(rt; got, expected, "behind: {behind}");
+    }
+    Ok(())
+}
+
+#[test]
+fn wide_lists_are_refused_where_they_are_needed(rt: HostRuntime) -> Result<(), Fail> {
+    let heap = rt.alloc();
+    for (before, expected) in BEFORE_SIX {
+        let rule = format!(in heap; "{before}({SIX})")?;
+        let got = outcome(heap, b"in a b c d out e f", rule.as_str().as_bytes())?;
+        assert_eq!(rt; got, expected, "before: {before}");
+    }
+    Ok(())
+}
+
+// The start, two rounds more, and true: the widest "and" that there is leaves lists of one set.
+#[test]
+fn widest_and_may_leave_one_set(rt: HostRuntime) -> Result<(), Fail> {
+    let heap = rt.alloc();
+    let named = b"in a b c d out e f g h";
+    assert_eq!(rt; outcome(heap, named, ONE_OF_MANY.as_bytes())?, Ok(4));
+    let twice = format!(in heap; "({FIVE}) & ({FIVE})")?;
+    assert_eq!(rt; outcome(heap, named, twice.as_str().as_bytes())?, Ok(33));
     Ok(())
 }
