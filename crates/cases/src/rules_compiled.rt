@@ -34,34 +34,36 @@ const FIVE: &str = "(a|Xa) & (b|Xb) & (c|Xc) & (d|Xd) & (e|Xe)";
 
 const SIX: &str = "(a|Xa) & (b|Xb) & (c|Xc) & (d|Xd) & (e|Xe) & (f|Xf)";
 
-// What stands behind the five units, and what the rule comes to. The width is judged at every step, from the left.
-const BEHIND_FIVE: [(&str, Outcome); 9] = [
-    ("", Ok(33)), // the start, and then a list for all of a to e that were off, which is one of 32 sets of them
-    ("|f", Err((11, 0))), // 33 sets
-    ("|a", Ok(18)), // a, and 16 sets with X a: those with a are dropped; then true, or a and any of b to e
-    ("|a|f", Ok(18)), // 18 sets, and the same after a round
-    ("|f|a", Err((11, 0))), // 33 sets before the 18
-    ("|f|true", Err((11, 0))), // 33 sets before one
-    ("|true|f", Ok(1)), // the empty set drops all others
-    ("&(f|Xf)&false", Err((11, 0))), // 64 sets before none
-    ("&false&(f|Xf)", Err((10, 0))), // none, from then on
-];
-
-// What stands in front of the six units in brackets, and what the rule comes to. A list that is too wide refuses what
-// needs it, though another side asks for nothing, or for what cannot be; behind an X only a round needs it.
-const BEFORE_SIX: [(&str, Outcome); 10] = [
-    ("", Err((11, 0))),
-    ("true | ", Err((11, 0))),
-    ("false & ", Err((11, 0))),
-    ("true | X", Ok(1)),
-    ("X", Err((11, 1))),
-    ("X false & X", Err((11, 1))),
-    ("XX", Err((11, 2))),
-    ("!a | XX", Err((11, 3))), // position 2 is that of true, found first, where a is off
+// What stands before five or six units in brackets, the units, what stands behind them, and what the rule comes to. The
+// width is judged at every step, from the left, and a list that is too wide refuses what needs it, though another side
+// asks for nothing, or for what cannot be; behind an X only a round needs it.
+const WIDTHS: [(&str, &str, &str, Outcome); 23] = [
+    ("", FIVE, "", Ok(33)), // the start, and then a list for all of a to e that were off, which is one of 32 sets of them
+    ("", FIVE, "|f", Err((11, 0))), // 33 sets
+    ("", FIVE, "|a", Ok(18)), // a, and 16 sets with X a: those with a are dropped; then true, or a and any of b to e
+    ("", FIVE, "|a|f", Ok(18)), // 18 sets, and the same after a round
+    ("", FIVE, "|f|a", Err((11, 0))), // 33 sets before the 18
+    ("", FIVE, "|f|true", Err((11, 0))), // 33 sets before one
+    ("", FIVE, "|true|f", Ok(1)), // the empty set drops all others
+    ("", FIVE, "&(f|Xf)&false", Err((11, 0))), // 64 sets before none
+    ("", FIVE, "&false&(f|Xf)", Err((10, 0))), // none, from then on
+    // After a round the duties of a set are joined from the lowest up, and so are the sets of a list.
+    ("X", FIVE, "& X(f|Xf) & X false", Err((11, 1))), // 64 sets before none
+    ("X false & X", FIVE, "& X(f|Xf)", Ok(1)), // lost, whatever the round
+    ("X", FIVE, "| Xf | X true", Err((11, 1))), // 33 sets before one
+    ("X true | X", FIVE, "| Xf", Ok(2)), // the start, and true
+    ("", SIX, "", Err((11, 0))),
+    ("true | ", SIX, "", Err((11, 0))),
+    ("false & ", SIX, "", Err((11, 0))),
+    ("true | X", SIX, "", Ok(1)),
+    ("X", SIX, "", Err((11, 1))),
+    ("X false & X", SIX, "", Err((11, 1))),
+    ("XX", SIX, "", Err((11, 2))),
+    ("!a | XX", SIX, "", Err((11, 3))), // position 2 is that of true, found first, where a is off
     // Seven rounds with a on or off lead to the positions 128 to 255; 128 is the first that meets the six units, or
     // the first that meets a 256th list where they come one round later.
-    ("G(!a|XXXXXXXX f) & XXXXXXXX", Err((11, 128))),
-    ("G(!a|XXXXXXXX f) & XXXXXXXXX", Err((12, 0))),
+    ("G(!a|XXXXXXXX f) & XXXXXXXX", SIX, "", Err((11, 128))),
+    ("G(!a|XXXXXXXX f) & XXXXXXXXX", SIX, "", Err((12, 0))),
 ];
 
 // All of e to h in two rounds, and of e and f in a third, beside 32 sets of the same duties of a to d; and the other way
@@ -112,21 +114,10 @@ fn rules_are_refused(rt: HostRuntime) -> Result<(), Fail> {
 #[test]
 fn width_is_judged_at_every_step(rt: HostRuntime) -> Result<(), Fail> {
     let heap = rt.alloc();
-    for (behind, expected) in BEHIND_FIVE {
-        let rule = format!(in heap; "{FIVE}{behind}")?;
+    for (before, units, behind, expected) in WIDTHS {
+        let rule = format!(in heap; "{before}({units}){behind}")?;
         let got = outcome(heap, b"in a b c d out e f", rule.as_str().as_bytes())?;
-        assert_eq!(rt; got, expected, "behind: {behind}");
-    }
-    Ok(())
-}
-
-#[test]
-fn wide_lists_are_refused_where_they_are_needed(rt: HostRuntime) -> Result<(), Fail> {
-    let heap = rt.alloc();
-    for (before, expected) in BEFORE_SIX {
-        let rule = format!(in heap; "{before}({SIX})")?;
-        let got = outcome(heap, b"in a b c d out e f", rule.as_str().as_bytes())?;
-        assert_eq!(rt; got, expected, "before: {before}");
+        assert_eq!(rt; got, expected, "{rule}");
     }
     Ok(())
 }
