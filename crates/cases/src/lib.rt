@@ -304,6 +304,8 @@ mod tests {
 }
 
 #[cfg(test)]
+mod rule_counts;
+#[cfg(test)]
 mod rules_compiled;
 #[cfg(test)]
 mod texts;
