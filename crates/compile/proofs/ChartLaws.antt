@@ -15,7 +15,7 @@ use Rattle.compile.specs.Charting.{known_in, Numbers, Stored, entered, Entry, wi
 use Rattle.compile.proofs.StoreLaws.{known_count, known_at}
 
 -- how many moves a position has
-made_here : (n p t : ℕ) → made n p t p ≡ t
+pub made_here : (n p t : ℕ) → made n p t p ≡ t
 made_here n p t = cond-false _ n _ (le-ltb p p (omega arith)) ∙ cond-true _ t 0 (eq-eqb p p refl)
 
 made_before : (n p t k : ℕ) → k < p → made n p t k ≡ n

@@ -1,5 +1,6 @@
 pub mod JoinLaws
 pub mod GivenLaws
+pub mod ReadsLaws
 pub mod ExpandLaws
 pub mod MemberLaws
 pub mod AfterLaws
@@ -11,4 +12,5 @@ pub mod RoundLaws
 pub mod ExploreLaws
 pub mod StoreLaws
 pub mod ChartLaws
+pub mod AlikeLaws
 pub mod OutcomeLaws

@@ -41,7 +41,7 @@ given_told : (s : Sets) → told (given s) ≡ s
 given_told too_wide = refl
 given_told (sets l) = refl
 
-sets_coded : Coded Sets
+pub sets_coded : Coded Sets
 sets_coded = code_by (Option (List ℕ)) (coded_option (coded_list coded_ℕ)) given told given_told
 
 knows_prop : (s : Sets) (x : Option (Option (List ℕ))) → IsProp (Knows s x)

@@ -3,6 +3,7 @@ pub mod Padded
 pub mod Outlined
 pub mod Played
 pub mod Known
+pub mod Reads
 pub mod Progressing
 pub mod Numbering
 pub mod Positions

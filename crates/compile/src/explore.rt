@@ -1,12 +1,16 @@
 // Exploring: positions in turn, inputs ascending, outputs ascending.
 ghost use Rattle.std.specs.Prelude.{◌≡◌, ℕ, ◌*◌, ◌^◌, ◌<◌, ◌≤◌, max, length, slice_index_or, MatchOption};
+ghost use Rattle.rules.specs.Sets.{sets};
+ghost use Rattle.rules.specs.Progress.{list_after};
 ghost use Rattle.compile.specs.Positions.{unused as unused_position};
 ghost use Rattle.compile.specs.Progressing.{rule};
+ghost use Rattle.compile.specs.Reads.{Covers};
 ghost use Rattle.compile.specs.Charting.{Stored, Enters, Goes, Charting, Leaves};
 ghost use Rattle.compile.specs.Explored.{Explores};
 ghost use Rattle.compile.specs.Compiling.{Builds};
 
 use crate::list::DutyList;
+use crate::mask::Mask;
 use crate::outline::Outline;
 use crate::position::Position;
 use crate::progress::Progress;
@@ -42,8 +46,9 @@ struct Explorer<'p> {
 }
 
 impl Explorer<'_> {
-    // Round t from the position at p: the move says the number of the position that it leads to, which is then found.
-    fn explore_round(
+    // Round t from the position at p, worked out: the move says the number of the position that it leads to, which is
+    // then found.
+    fn explore_anew(
         &mut self,
         found: &mut Register<'_, Position>,
         p: usize,
@@ -66,6 +71,31 @@ impl Explorer<'_> {
         Ok(())
     }
 
+    // Round t from the position at p, whose list reads the signals of `mask`: the move of an earlier round that is alike in
+    // these is its move too.
+    fn explore_round(
+        &mut self,
+        found: &mut Register<'_, Position>,
+        mask: Mask,
+        p: usize,
+        t: usize,
+    ) -> Result<(), Refusal>
+        requires round { t < 2 ^ self.old.signals.inputs * 2 ^ self.old.signals.outputs }
+        requires charting { (Charting (2 ^ self.old.signals.inputs * 2 ^ self.old.signals.outputs) self.old.signals.outputs (rule self.old.progress) found.old.used p t found.old.store.now) × (p < found.old.used) }
+        requires covers { Covers mask (λ r. list_after (rule self.old.progress) r (sets (slice_index_or found.old.store.now p unused_position).list)) }
+        ensures goes { Goes self.old.signals.outputs (rule self.old.progress) found.old.used p t found.old.store.now found.new.used found.new.store.now result }
+        ensures rule { (rule self.new.progress ≡ rule self.old.progress) × (self.new.signals ≡ self.old.signals) }
+        ensures lender { found.new.store.ghost_name ≡ found.old.store.ghost_name }
+    {
+        let outputs = self.signals.outputs;
+        let alike = mask.shown(Turn::at(t, outputs)).number(outputs);
+        if t <= alike {
+            return self.explore_anew(found, p, t);
+        }
+        found.store[p].moves[t] = found.store[p].moves[alike];
+        Ok(())
+    }
+
     // Every round from the position at p.
     fn explore_position(
         &mut self,
@@ -77,8 +107,9 @@ impl Explorer<'_> {
         ensures rule { (rule self.new.progress ≡ rule self.old.progress) × (self.new.signals ≡ self.old.signals) }
         ensures lender { found.new.store.ghost_name ≡ found.old.store.ghost_name }
     {
+        let mask = self.progress.outline.list_mask(&found.store[p].list);
         for t in 0..count_of(self.signals.inputs) * count_of(self.signals.outputs) {
-            self.explore_round(found, p, t)?;
+            self.explore_round(found, mask, p, t)?;
         }
         Ok(())
     }

@@ -1,47 +1,58 @@
--- The list after the round is entered, and its number is written.
-use Rattle.std.proofs.Common.{◌≡◌, suc, ◌<◌, length, set, Some, None, ap, ◌∙◌, subst, arith}
+-- The round that is alike comes before, and its move is this one's.
+use Rattle.std.proofs.Common.{◌≡◌, ◌<◌, length, get_or, set, sym, ap, ◌∙◌, subst, arith}
 use Rattle.std.proofs.lemmas.List.{get_or_default}
-use Rattle.terms.specs.declared.refusal.Refusal.TheVariants.{TooManyPositions}
-use Rattle.rules.specs.Sets.{sets}
-use Rattle.rules.specs.Explore.{met}
+use lib.Bits.{bit_and, and_le_l}
+use Rattle.arena.specs.Tally.{Played}
 use Rattle.compile.specs.declared.position.Position.{Position}
-use Rattle.compile.specs.Listed.{told}
-use Rattle.compile.specs.Positions.{unused, reason}
-use Rattle.compile.specs.Charting.{known_in, list_next, Round}
+use Rattle.compile.specs.Positions.{unused, turn_at}
+use Rattle.compile.specs.Charting.{list_next, Round}
 use Rattle.compile.specs.Progressing.{rule}
-use Rattle.compile.proofs.GivenLaws.{err_is}
 use Rattle.compile.proofs.StoreLaws.{in_store}
-use Rattle.compile.proofs.ChartLaws.{next_is, round_from, entered_length}
+use Rattle.compile.proofs.AlikeLaws.{round_few, shown_agrees, round_alike}
 use Rattle.compile.proofs.explore.Explorer.explore_round.Goals as goal
-use Rattle.compile.proofs.explore.Explorer.explore_round.Goals.{In_ok-next}
 
--- the list after the round from the position at p
-leads : (c : In_ok-next) → list_next c.args.self.now.signals.outputs (rule c.args.self.now.progress) c.args.p c.args.t c.args.found.now.store.now ≡ sets c.in_ok-next.next
-leads c =
-    let went : c.list_after.result ≡ Some c.in_ok-next.next = grind arith in
-    next_is _ _ _ _ _ c.index-found-p.result _ _ (in_store _ _ _ c.requires.stored.0 c.requires.stored.1) c.at-turn.ensures (c.list_after.ensures.value ∙ ap told went)
+pub at-requires : goal.at-requires
+at-requires c =
+    let s = c.args.self.now in
+    ((round_few s.signals.inputs s.signals.outputs c.args.t s.few_inputs s.few_outputs c.requires.round).0, s.few_outputs)
 
-pub returns-in_err-n-clause-goes : goal.returns-in_err-n-clause-goes
-returns-in_err-n-clause-goes c =
-    let old = c.args.found.now in
-    let full : c.enter_list.result ≡ None = grind arith in
-    let many : c.in_err-n.field-0.0 ≡ TooManyPositions = grind arith in
-    let enters = rw full at c.enter_list.ensures.enters in
-    rw (err_is _ c.from_residual-in_err-n.ensures.1, many)
-    (ap (λ s. reason (met (suc c.args.p) (known_in old.used old.store.now) s)) (leads (goal.at.returns-in_err-n-clause-goes c).In_ok-next) ∙ ap reason (enters (suc c.args.p)))
+pub number-alike-requires : goal.number-alike-requires
+number-alike-requires c =
+    let s = c.args.self.now in
+    let few = round_few s.signals.inputs s.signals.outputs c.args.t s.few_inputs s.few_outputs c.requires.round in
+    let turn = c.at.result in (
+      s.few_outputs,
+      (
+        omega (arith, c.shown.ensures.0, and_le_l turn.input c.args.mask.inputs, ap (λ (r : Played). r.input) c.at.ensures, few.1.0),
+        omega (arith, c.shown.ensures.1, and_le_l turn.output c.args.mask.outputs, ap (λ (r : Played). r.output) c.at.ensures, few.1.1),
+      ),
+    )
+
+pub bounds-found-t : goal.bounds-found-t
+bounds-found-t c =
+    let s = c.args.self.now in
+    (round_few s.signals.inputs s.signals.outputs c.args.t s.few_inputs s.few_outputs c.requires.round).0
 
 pub returns-clause-goes : goal.returns-clause-goes
 returns-clause-goes c =
+    let s = c.args.self.now in
+    let o = s.signals.outputs in
+    let p = c.args.p in
+    let t = c.args.t in
+    let u = c.number-alike.result in
     let store = c.args.found.now.store.now in
     let used = c.args.found.now.used in
-    let n = c.in_ok-n.n in
-    let after = c.enter_list.new.found.store.now in
-    let given : c.enter_list.result ≡ Some n = grind arith in
-    let entry = rw given at c.enter_list.ensures.enters in
-    let lt-after : c.args.p < length after = omega (arith, ap length entry.holds, entered_length used c.in_ok-next.next n store, in_store _ _ _ c.requires.stored.0 c.requires.stored.1) in (
-      n,
-      rw given at c.enter_list.ensures.used,
-      subst (λ (x : Position). Round c.args.self.now.signals.outputs (rule c.args.self.now.progress) used c.args.p c.args.t store (set after c.args.p (record { list = x.list; moves = set x.moves c.args.t n })) n)
-          (get_or_default after c.args.p unused _ lt-after)
-          (round_from _ _ used c.args.p c.args.t store after c.in_ok-next.next n c.requires.stored.0 c.requires.stored.1 (leads (goal.at.returns-clause-goes c).In_ok-next) entry),
+    let inside : p < length store = in_store used p store c.requires.charting.0.stored c.requires.charting.1 in
+    let few = round_few s.signals.inputs o t s.few_inputs s.few_outputs c.requires.round in
+    let agrees = shown_agrees c.args.mask o t _ _ u few.0
+    (c.shown.ensures.0 ∙ ap (λ (r : Played). bit_and r.input c.args.mask.inputs) c.at.ensures)
+    (c.shown.ensures.1 ∙ ap (λ (r : Played). bit_and r.output c.args.mask.outputs) c.at.ensures) c.number-alike.ensures.0 in
+    let same : list_next o (rule s.progress) p u store ≡ list_next o (rule s.progress) p t store = sym (c.requires.covers (turn_at o t) (turn_at o u) agrees) in
+    let m = get_or (get_or store p c.index-found-p.result).moves u 0 in
+    let is : m ≡ get_or (get_or store p unused).moves u 0 = ap (λ (e : Position). get_or e.moves u 0) (get_or_default store p _ unused inside) in
+    let w = round_alike _ o (rule s.progress) used p t u store m c.requires.charting.0 c.requires.charting.1 (omega (arith, c.if-t-alike.false)) same is in (
+      m,
+      w.0,
+      subst (λ (e : Position). Round o (rule s.progress) used p t store (set store p (record { list = e.list; moves = set e.moves t m })) m)
+          (sym (get_or_default store p _ unused inside)) w.1,
     )

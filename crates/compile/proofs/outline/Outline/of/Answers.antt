@@ -34,4 +34,5 @@ invariant_of-result c =
     let all = subst (λ k. Numbered ps k c.loop-k.numbers c.loop-k.owners c.loop-k.next) whole c.loop-k.invariant in
     record {
       outlines = record { short = c.requires.0; falls = c.requires.1.0; numbered = all.numbers_are; duties = c.requires.1.1; owned = numbered_owners ps _ _ _ all };
+      reads = c.masks_of.ensures;
     }
