@@ -154,15 +154,9 @@ mod tests {
         let heap = rt.alloc();
         let mut store = vec![in heap; 0u8; 6128]?;
         let (a, b, c) = (still(heap, 15)?, still(heap, 16)?, still(heap, 17)?);
-        let pair = Pair {
-            first: Diagram::read(a.as_slice())?,
-            second: Diagram::read(c.as_slice())?,
-        };
+        let pair = Pair::of(Diagram::read(a.as_slice())?, Diagram::read(c.as_slice())?);
         assert_eq!(rt; solve(&pair, store.as_mut_slice())?, 6128);
-        let pair = Pair {
-            first: Diagram::read(b.as_slice())?,
-            second: Diagram::read(b.as_slice())?,
-        };
+        let pair = Pair::of(Diagram::read(b.as_slice())?, Diagram::read(b.as_slice())?);
         assert_eq!(rt; refusal_of(solve(&pair, store.as_mut_slice())), (17, 0));
         Ok(())
     }

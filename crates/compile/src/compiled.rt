@@ -27,7 +27,8 @@ pub struct CompiledRule<'p> {
 impl Compiled {
     // The game of these numbers with the moves in the store.
     pub fn game<'p>(self, positions: &'p [Position]) -> CompiledRule<'p>
-        ensures { (result.numbers ≡ self) × (result.positions.now ≡ positions.now) }
+        ensures fields { (result.numbers ≡ self) × (result.positions.now ≡ positions.now) }
+        ensures means { ⟦<CompiledRule<'p> as Game>⟧.meaning result ≡ arena_in self positions.now }
     {
         CompiledRule {
             numbers: self,

@@ -108,11 +108,11 @@ fn run_with<'a, G: Game + Drop>(
     match second {
         Loaded::Drawn(drawing) => {
             let second = drawing.game(false)?;
-            obey(rt, errand, &Pair { first, second })
+            obey(rt, errand, &Pair::of(first, second))
         }
         Loaded::Ruled(sheet) => {
             let second = sheet.game();
-            obey(rt, errand, &Pair { first, second })
+            obey(rt, errand, &Pair::of(first, second))
         }
     }
 }

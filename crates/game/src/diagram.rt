@@ -24,7 +24,7 @@ pub struct Diagram<'a> {
 impl<'a> Diagram<'a> {
     // The game that the bytes draw, or the first thing that is wrong with them.
     pub fn read(bytes: &'a [u8]) -> Result<Diagram<'a>, Refusal>
-        ensures outcome { MatchResult result (λ d. WellFormed bytes.now × Draws bytes.now (drawn d.shape d.bytes.now)) (λ e. Refused bytes.now e) }
+        ensures outcome { MatchResult result (λ d. WellFormed bytes.now × Draws bytes.now (⟦<Diagram<'static> as Game>⟧.meaning d)) (λ e. Refused bytes.now e) }
         ensures served { WellFormed bytes.now → is_ok result ≡ true }
         ensures refused { (e : Refusal) → Refused bytes.now e → MatchResult result (λ _. ⊥) (λ f. f ≡ e) }
     {

@@ -9,8 +9,18 @@ use crate::range::Extent;
 // Signal k of the one is signal k of the other, and a round that either loses is lost.
 #[derive(Drop)]
 pub struct Pair<A, B> {
-    pub first: A,
-    pub second: B,
+    first: A,
+    second: B,
+}
+
+impl<A: Game, B: Game> Pair<A, B> {
+    // The two games played side by side.
+    pub fn of(first: A, second: B) -> Pair<A, B>
+        ensures games { (result.first ≡ first) × (result.second ≡ second) }
+        ensures means { ⟦<Pair<A, B> as Game>⟧.meaning result ≡ pair (A.meaning first) (B.meaning second) }
+    {
+        Pair { first, second }
+    }
 }
 
 impl<A: Game, B: Game> Game for Pair<A, B> {

@@ -52,10 +52,7 @@ fn solve_pair(first: &[u8], second: &[u8], book: &mut [u8]) -> Result<usize, Ref
     let mut others = [Position::unused(); 255];
     let one = compiled(first, &mut ones)?;
     let other = compiled(second, &mut others)?;
-    let pair = Pair {
-        first: one.game(&ones),
-        second: other.game(&others),
-    };
+    let pair = Pair::of(one.game(&ones), other.game(&others));
     solve(&pair, book)
 }
 
