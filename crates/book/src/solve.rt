@@ -5,6 +5,7 @@ ghost use Rattle.book.specs.Solving.{Solved, Declined};
 use crate::layout::book_length;
 use crate::sweep::settle;
 use game::game::Game;
+use game::table::MoveTable;
 use terms::refusal::Refusal;
 
 // Solves a game into its book and says how many bytes that takes.
@@ -14,7 +15,8 @@ pub fn solve<G: Game>(g: &G, book: &mut [u8]) -> Result<usize, Refusal>
     if g.size() == 0 {
         return Err(Refusal::SizeZero);
     }
-    let solution = settle(g).ok_or(Refusal::TooManySweeps)?;
+    let table = MoveTable::of(g);
+    let solution = settle(&table).ok_or(Refusal::TooManySweeps)?;
     let len = book_length(g);
     if book.len() < len {
         return Err(Refusal::StoreTooShort);

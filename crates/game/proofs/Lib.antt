@@ -1,2 +1,3 @@
 pub mod PairLaws
 pub mod ReadingLaws
+pub mod MoveLaws

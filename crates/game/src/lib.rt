@@ -7,3 +7,4 @@ mod fields;
 pub mod game;
 pub mod pair;
 pub mod range;
+pub mod table;
