@@ -1,0 +1,34 @@
+// The calls over a diagram.
+use crate::code::{Answer, CallCode};
+use crate::over::{accept_book, replay_row, solve_game};
+use crate::outcome::Outcome;
+use game::diagram::Diagram;
+
+// Solves the game that the bytes draw into its book.
+pub fn solve_diagram(diagram: &[u8], book: &mut [u8]) -> Outcome {
+    match Diagram::read(diagram) {
+        Ok(game) => solve_game(&game, book),
+        Err(refusal) => Outcome::refused(refusal),
+    }
+}
+
+// Accepts a book that is the one of the game that the bytes draw.
+pub fn accept_diagram(diagram: &[u8], book: &[u8]) -> Outcome {
+    match Diagram::read(diagram) {
+        Ok(game) => accept_book(&game, book),
+        Err(refusal) => Outcome::refused(refusal),
+    }
+}
+
+// Carries a row of calls through a run of the game that the bytes draw, by its book.
+pub fn replay_diagram(
+    diagram: &[u8],
+    book: &[u8],
+    row: &[CallCode],
+    answers: &mut [Answer],
+) -> Outcome {
+    match Diagram::read(diagram) {
+        Ok(game) => replay_row(&game, book, row, answers),
+        Err(refusal) => Outcome::refused(refusal),
+    }
+}
