@@ -1,4 +1,7 @@
 // The calls over any game.
+ghost use Rattle.calls.specs.Told.{Comes, SolvedInto, Judged};
+ghost use Rattle.calls.specs.Rows.{RowReplayed};
+
 use crate::code::{Answer, CallCode};
 use crate::outcome::Outcome;
 use crate::row::replay;
@@ -7,11 +10,15 @@ use book::solve::solve;
 use game::game::Game;
 use run::play::Play;
 
-pub(crate) fn solve_game<G: Game>(game: &G, book: &mut [u8]) -> Outcome {
+pub(crate) fn solve_game<G: Game>(game: &G, book: &mut [u8]) -> Outcome
+    ensures { Comes (SolvedInto book.old book.new (G.meaning game.now)) result }
+{
     Outcome::of(solve(game, book))
 }
 
-pub(crate) fn accept_book<G: Game>(game: &G, book: &[u8]) -> Outcome {
+pub(crate) fn accept_book<G: Game>(game: &G, book: &[u8]) -> Outcome
+    ensures { Comes (Judged book.now (G.meaning game.now)) result }
+{
     Outcome::of(accept(game, book).map(|()| book.len()))
 }
 
@@ -20,6 +27,8 @@ pub(crate) fn replay_row<G: Game>(
     book: &[u8],
     row: &[CallCode],
     answers: &mut [Answer],
-) -> Outcome {
+) -> Outcome
+    ensures { Comes (RowReplayed (G.meaning game.now) book.now row.now answers.old answers.new) result }
+{
     Outcome::of(replay(&Play { game, book }, row, answers))
 }

@@ -1,4 +1,10 @@
 // A row of calls over any game.
+ghost use Rattle.std.specs.Prelude.{◌≡◌, Some};
+ghost use Rattle.terms.specs.declared.call.Call.{Call};
+ghost use Rattle.run.specs.Stages.{stage_after};
+ghost use Rattle.calls.specs.Codes.{call_of};
+ghost use Rattle.calls.specs.Rows.{strange_at, answer_at, RowReplayed};
+
 use crate::code::{Answer, CallCode};
 use game::game::Game;
 use run::play::Play;
@@ -14,7 +20,9 @@ pub(crate) fn replay<G: Game>(
     play: &Play<'_, G>,
     row: &[CallCode],
     answers: &mut [Answer],
-) -> Result<usize, Refusal> {
+) -> Result<usize, Refusal>
+    ensures { RowReplayed (G.meaning play.now.game.now) play.now.book.now row.now answers.old answers.new result }
+{
     if answers.len() < row.len() {
         return Err(Refusal::StoreTooShort);
     }
@@ -39,20 +47,29 @@ pub(crate) fn replay<G: Game>(
 }
 
 // The first that is no call.
-fn strange(row: &[CallCode]) -> Option<usize> {
+fn strange(row: &[CallCode]) -> Option<usize>
+    ensures { result ≡ strange_at row.now }
+{
     row.iter().position(|code| code.call().is_none())
 }
 
 // One call, with its answer.
+// Kept: a code is read where its call is made, so that no row of calls has to be stored; one that is no call, which a row
+// that is carried through does not have, leaves the stage as it is.
 fn answered<G: Game>(
     stage: Stage,
     play: &Play<'_, G>,
     code: CallCode,
-) -> (Stage, Result<Answer, Refusal>) {
+) -> (Stage, Result<Answer, Refusal>)
+    ensures after { (c : Call) → call_of code ≡ Some c → result.0 ≡ stage_after (G.meaning play.now.game.now) play.now.book.now c stage }
+    ensures told { (c : Call) → call_of code ≡ Some c → result.1 ≡ answer_at (G.meaning play.now.game.now) play.now.book.now c stage }
+{
     let Some(call) = code.call() else {
         return (stage, Err(Refusal::StrangeByte(0)));
     };
     let (next, reply) = take(stage, play, call);
-    let answer = next.standing(play).map(|standing| Answer::of(Step { reply, standing }));
+    let answer = next
+        .standing(play)
+        .map(|standing| Answer::of(Step { reply, standing }));
     (next, answer)
 }
