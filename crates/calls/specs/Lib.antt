@@ -1,4 +1,4 @@
 pub mod Outcomes
 pub mod Codes
 pub mod Rows
-pub mod Told
+pub mod Giving

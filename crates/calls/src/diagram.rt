@@ -1,6 +1,6 @@
 // The calls over a diagram.
 ghost use Rattle.std.specs.Prelude.{◌≡◌};
-ghost use Rattle.calls.specs.Told.{DiagramMeans, DiagramMisread, Told, SolvedInto, Judged};
+ghost use Rattle.calls.specs.Giving.{DiagramMeans, DiagramMisread, Gives, SolvedInto, Judged};
 ghost use Rattle.calls.specs.Rows.{RowReplayed};
 
 use crate::code::{Answer, CallCode};
@@ -10,7 +10,7 @@ use game::diagram::Diagram;
 
 // Solves the game that the bytes draw into its book.
 pub fn solve_diagram(diagram: &[u8], book: &mut [u8]) -> Outcome
-    ensures { Told (DiagramMeans diagram.now) (DiagramMisread diagram.now) (book.new ≡ book.old) (SolvedInto book.old book.new) result }
+    ensures { Gives (DiagramMeans diagram.now) (DiagramMisread diagram.now) (book.new ≡ book.old) (SolvedInto book.old book.new) result }
 {
     match Diagram::read(diagram) {
         Ok(game) => solve_game(&game, book),
@@ -20,7 +20,7 @@ pub fn solve_diagram(diagram: &[u8], book: &mut [u8]) -> Outcome
 
 // Accepts a book that is the one of the game that the bytes draw.
 pub fn accept_diagram(diagram: &[u8], book: &[u8]) -> Outcome
-    ensures { Told (DiagramMeans diagram.now) (DiagramMisread diagram.now) Unit (Judged book.now) result }
+    ensures { Gives (DiagramMeans diagram.now) (DiagramMisread diagram.now) Unit (Judged book.now) result }
 {
     match Diagram::read(diagram) {
         Ok(game) => accept_book(&game, book),
@@ -35,7 +35,7 @@ pub fn replay_diagram(
     row: &[CallCode],
     answers: &mut [Answer],
 ) -> Outcome
-    ensures { Told (DiagramMeans diagram.now) (DiagramMisread diagram.now) (answers.new ≡ answers.old) (λ a. RowReplayed a book.now row.now answers.old answers.new) result }
+    ensures { Gives (DiagramMeans diagram.now) (DiagramMisread diagram.now) (answers.new ≡ answers.old) (λ a. RowReplayed a book.now row.now answers.old answers.new) result }
 {
     match Diagram::read(diagram) {
         Ok(game) => replay_row(&game, book, row, answers),

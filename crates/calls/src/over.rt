@@ -1,5 +1,5 @@
 // The calls over any game.
-ghost use Rattle.calls.specs.Told.{Comes, SolvedInto, Judged};
+ghost use Rattle.calls.specs.Giving.{Comes, SolvedInto, Judged};
 ghost use Rattle.calls.specs.Rows.{RowReplayed};
 
 use crate::code::{Answer, CallCode};

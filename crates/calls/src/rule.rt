@@ -1,6 +1,6 @@
 // The calls over the two texts of a rule.
 ghost use Rattle.std.specs.Prelude.{◌≡◌, ◌≤◌, length};
-ghost use Rattle.calls.specs.Told.{Compiled as Compiling, RuleMeans, RuleMisread, Told, SolvedInto, Judged};
+ghost use Rattle.calls.specs.Giving.{Compiled as Compiling, RuleMeans, RuleMisread, Gives, SolvedInto, Judged};
 ghost use Rattle.calls.specs.Rows.{RowReplayed};
 
 use crate::code::{Answer, CallCode};
@@ -25,7 +25,7 @@ fn compiled(signals: &[u8], rule: &[u8], positions: &mut [Position]) -> Result<C
 
 // Solves the game of the rule into its book.
 pub fn solve_rule(signals: &[u8], rule: &[u8], book: &mut [u8]) -> Outcome
-    ensures { Told (RuleMeans signals.now rule.now) (RuleMisread signals.now rule.now) (book.new ≡ book.old) (SolvedInto book.old book.new) result }
+    ensures { Gives (RuleMeans signals.now rule.now) (RuleMisread signals.now rule.now) (book.new ≡ book.old) (SolvedInto book.old book.new) result }
 {
     let mut positions = [Position::unused(); 255];
     match compiled(signals, rule, &mut positions) {
@@ -36,7 +36,7 @@ pub fn solve_rule(signals: &[u8], rule: &[u8], book: &mut [u8]) -> Outcome
 
 // Accepts a book that is the one of the rule's game.
 pub fn accept_rule(signals: &[u8], rule: &[u8], book: &[u8]) -> Outcome
-    ensures { Told (RuleMeans signals.now rule.now) (RuleMisread signals.now rule.now) Unit (Judged book.now) result }
+    ensures { Gives (RuleMeans signals.now rule.now) (RuleMisread signals.now rule.now) Unit (Judged book.now) result }
 {
     let mut positions = [Position::unused(); 255];
     match compiled(signals, rule, &mut positions) {
@@ -53,7 +53,7 @@ pub fn replay_rule(
     row: &[CallCode],
     answers: &mut [Answer],
 ) -> Outcome
-    ensures { Told (RuleMeans signals.now rule.now) (RuleMisread signals.now rule.now) (answers.new ≡ answers.old) (λ a. RowReplayed a book.now row.now answers.old answers.new) result }
+    ensures { Gives (RuleMeans signals.now rule.now) (RuleMisread signals.now rule.now) (answers.new ≡ answers.old) (λ a. RowReplayed a book.now row.now answers.old answers.new) result }
 {
     let mut positions = [Position::unused(); 255];
     match compiled(signals, rule, &mut positions) {

@@ -1,5 +1,5 @@
 use Rattle.std.proofs.Common.{refl}
-use Rattle.calls.specs.Told.{misread, over}
+use Rattle.calls.specs.Giving.{misread, over}
 use Rattle.calls.proofs.diagram.replay_diagram.Goals as goal
 
 pub returns-in-Ok : goal.returns-in-Ok

@@ -1,5 +1,5 @@
 use Rattle.compile.specs.TableGame.{arena_in}
-use Rattle.calls.specs.Told.{misread, over}
+use Rattle.calls.specs.Giving.{misread, over}
 use Rattle.calls.proofs.rule.accept_rule.Goals as goal
 
 pub returns-in-Ok : goal.returns-in-Ok

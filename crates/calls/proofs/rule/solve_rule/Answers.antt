@@ -1,6 +1,6 @@
 use Rattle.std.proofs.Common.{refl}
 use Rattle.compile.specs.TableGame.{arena_in}
-use Rattle.calls.specs.Told.{misread, over}
+use Rattle.calls.specs.Giving.{misread, over}
 use Rattle.calls.proofs.rule.solve_rule.Goals as goal
 
 pub returns-in-Ok : goal.returns-in-Ok

@@ -1,5 +1,5 @@
 -- What the calls of the library come to: the promises of its public calls.
--- RuleMeans, DiagramMeans: the game of a source. RuleMisread, DiagramMisread: why a source is refused. Told: an outcome.
+-- RuleMeans, DiagramMeans: the game of a source. RuleMisread, DiagramMisread: why a source is refused. Gives: an outcome.
 use Rattle.std.specs.Prelude.{◌≡◌, ℕ, List, length, Ok, Err, Result, MatchResult}
 use Rattle.terms.specs.declared.refusal.Refusal.{Refusal}
 use Rattle.arena.specs.Arena.{Arena}
@@ -45,9 +45,9 @@ DiagramMisread bytes m = (m.text ≡ Neither) × Refused bytes m.refusal
 
 -- the source is refused, and what the call could have written is as it was; or the source means a game, and over that the
 -- call comes to what it promises
-pub data Told (Means : Arena → Type 0) (Misreads : Misread → Type 0) (Same : Type 0) (Promise : Arena → Result ℕ Refusal → Type 0) : Outcome → Type 0 where
-  misread : {m : Misread} → Misreads m → Same → Told Means Misreads Same Promise (refused m)
-  over : {a : Arena} {r : Result ℕ Refusal} → Means a → Promise a r → Told Means Misreads Same Promise (outcome r)
+pub data Gives (Means : Arena → Type 0) (Misreads : Misread → Type 0) (Same : Type 0) (Promise : Arena → Result ℕ Refusal → Type 0) : Outcome → Type 0 where
+  misread : {m : Misread} → Misreads m → Same → Gives Means Misreads Same Promise (refused m)
+  over : {a : Arena} {r : Result ℕ Refusal} → Means a → Promise a r → Gives Means Misreads Same Promise (outcome r)
 
 -- over a game, the call comes to what it promises
 abbrev pub Comes : (Result ℕ Refusal → Type 0) → Outcome → Type 0
