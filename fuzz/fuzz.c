@@ -431,6 +431,7 @@ int main(int argc, char **argv)
         pool[k].is_rule = (int)(k % 2);
     }
     printf("seed %" PRIu64 ", %" PRIu64 " inputs\n", seed, count);
+    fflush(stdout);
     for (done = 0; done < count; done++) {
         if (done % 64 == 0) {
             alarm(SECONDS);

@@ -7,7 +7,7 @@
 #include <stdio.h>
 #include <string.h>
 
-enum { LONGEST = 2048 };
+enum { LONGEST = 8192 };
 
 struct bytes {
     uint8_t at[LONGEST];
@@ -163,10 +163,11 @@ static void mutate(struct bytes *bytes)
     }
 }
 
-/* A diagram with a record for some of the moves; every chain is right. */
+/* A diagram with a record for some of the moves; every chain is right. Few are large. */
 static void make_diagram(struct bytes *out)
 {
-    size_t inputs = below(3), outputs = below(3), size = 1 + below(8), records = 0;
+    int few = !chance(3);
+    size_t inputs = below(few ? 3 : 5), outputs = below(few ? 3 : 5), size = 1 + below(few ? 8 : 255), records = 0;
     size_t head = 8, first = 8 + 2 * size;
     memset(out->at, 0, LONGEST);
     for (size_t p = 0; p < size; p++) {
