@@ -3,7 +3,7 @@
  *
  * The library is crates/cuzzambra/out/libcuzzambra.a, which `rt lib` builds in crates/cuzzambra. It has no state, takes no
  * memory but the stack, and reads and writes nothing but what each call is lent: any call may be made at any time, from
- * any thread. Of the C library it needs memcpy and memset.
+ * any thread. Of the C library it needs memcpy and memset. It is built for x86-64, where size_t has 64 bits.
  *
  * Every call returns, for any bytes. It serves, or refuses with exactly one reason, and the same arguments give the same
  * result. What each call is proved to give is stated by the contracts of crates/cuzzambra/src/lib.rt; this file says it in
