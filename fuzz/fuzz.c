@@ -2,10 +2,10 @@
  * Random bytes for every call of the library: fuzz COUNT SEED [DIAGRAM..]
  *
  * COUNT calls are made on fresh inputs: sources that are well formed, changed a little, or made of any bytes, and books
- * and rows likewise. Of each call it is checked that it returns (an alarm says when not), reads and writes only what it is
- * lent (pages behind each buffer may not be touched, guard bytes stand before it), leaves what it may only read, gives an
- * outcome of the documented range, writes nothing where it refuses and nothing behind what it serves, and does the same
- * when it is called again. What is solved is also accepted, and with a byte changed refused.
+ * and rows likewise. Of each call it is checked that it returns (an alarm says when not), reads and writes only what it
+ * is lent (pages behind each buffer may not be touched, guard bytes stand before it), leaves what it may only read,
+ * gives an outcome of the documented range, writes nothing where it refuses and nothing behind what it serves, and does
+ * the same when it is called again. What is solved is also accepted, and with a byte changed refused.
  */
 #include "../bindings/cuzzambra.h"
 #include "arena.h"
@@ -18,7 +18,8 @@ enum { SECONDS = 60, POOL = 64, MOST_SEEDS = 8, MOST_CALLS = 512 };
 
 enum entry { SOLVE_RULE, SOLVE_DIAGRAM, ACCEPT_RULE, ACCEPT_DIAGRAM, REPLAY_RULE, REPLAY_DIAGRAM, ENTRIES };
 
-static const char *const ENTRY_NAMES[ENTRIES] = {"solve_rule", "solve_diagram", "accept_rule", "accept_diagram", "replay_rule", "replay_diagram"};
+static const char *const ENTRY_NAMES[ENTRIES] = {"solve_rule",     "solve_diagram", "accept_rule",
+                                                 "accept_diagram", "replay_rule",   "replay_diagram"};
 
 /* A source with its book, where it has one. */
 struct source {
@@ -85,7 +86,8 @@ static void check_place(struct cuzzambra_outcome o)
 {
     size_t longest = o.text == CUZZAMBRA_SIGNALS ? signals.length : text.length;
     if (o.number == 2 && o.text == 0) {
-        check(o.place < row.length / 2 && (row.at[2 * o.place] == 0 || row.at[2 * o.place] > 7), "the place of a kind that no call has");
+        check(o.place < row.length / 2 && (row.at[2 * o.place] == 0 || row.at[2 * o.place] > 7),
+              "the place of a kind that no call has");
     } else if (is_of_text(o.number)) {
         check(o.text == CUZZAMBRA_SIGNALS || o.text == CUZZAMBRA_RULE, "a text that has the place");
         check(o.place <= longest, "a place in the text");
@@ -112,7 +114,9 @@ static void check_outcome(struct cuzzambra_outcome o)
 
 static void check_guards(void)
 {
-    check(guard_is_whole(&signals) && guard_is_whole(&text) && guard_is_whole(&book) && guard_is_whole(&row) && guard_is_whole(&answers), "bytes before a buffer");
+    check(guard_is_whole(&signals) && guard_is_whole(&text) && guard_is_whole(&book) && guard_is_whole(&row) &&
+              guard_is_whole(&answers),
+          "bytes before a buffer");
 }
 
 static int same_outcome(struct cuzzambra_outcome a, struct cuzzambra_outcome b)
@@ -142,7 +146,8 @@ static struct cuzzambra_outcome replay(int is_rule)
     struct cuzzambra_answer *told = (struct cuzzambra_answer *)(void *)answers.at;
     size_t room = answers.length / sizeof *told;
     if (is_rule) {
-        return cuzzambra_replay_rule(signals.at, signals.length, text.at, text.length, book.at, book.length, calls, row.length / 2, told, room);
+        return cuzzambra_replay_rule(signals.at, signals.length, text.at, text.length, book.at, book.length, calls,
+                                     row.length / 2, told, room);
     }
     return cuzzambra_replay_diagram(text.at, text.length, book.at, book.length, calls, row.length / 2, told, room);
 }
@@ -210,7 +215,8 @@ static void try_solve(struct source *source)
     if (chance(25)) {
         memcpy(kept_book, book.at, o.length);
         fill(&book, room, (uint8_t)~byte);
-        check(same_outcome(o, solve()) && memcmp(kept_book, book.at, o.length) == 0, "a call that is made again does the same");
+        check(same_outcome(o, solve()) && memcmp(kept_book, book.at, o.length) == 0,
+              "a call that is made again does the same");
     }
     source->book_length = 0;
     if (o.number == 0) {
@@ -233,9 +239,12 @@ static void check_answers(size_t length)
 {
     const struct cuzzambra_answer *told = (const struct cuzzambra_answer *)(const void *)answers.at;
     for (size_t k = 0; k < length; k++) {
-        check(told[k].kind == row.at[2 * k] || told[k].kind == CUZZAMBRA_REFUSED || told[k].kind == CUZZAMBRA_NOT_ALLOWED, "the kind of an answer");
+        check(told[k].kind == row.at[2 * k] || told[k].kind == CUZZAMBRA_REFUSED ||
+                  told[k].kind == CUZZAMBRA_NOT_ALLOWED,
+              "the kind of an answer");
         check(told[k].value >= -1 && told[k].value <= CUZZAMBRA_UNLIMITED, "the value of an answer");
-        check(told[k].kind != CUZZAMBRA_REFUSED || told[k].value == 19 || told[k].value == 20, "a refusal of a call of a row");
+        check(told[k].kind != CUZZAMBRA_REFUSED || told[k].value == 19 || told[k].value == 20,
+              "a refusal of a call of a row");
         check(told[k].position <= 255, "the position of an answer");
         check(told[k].count >= -1 && told[k].count <= CUZZAMBRA_UNLIMITED, "the count of an answer");
         check((told[k].position == 0) == (told[k].count == -1), "a lost run is at no position");
@@ -256,12 +265,14 @@ static void try_replay(struct source *source)
     check_guards();
     check_kept(1);
     check(o.number != 0 || o.length == calls, "an answer for each call");
-    check(o.length <= room && is_filled(&answers, written, byte), "answers behind the row, or of a refused replay, are not written");
+    check(o.length <= room && is_filled(&answers, written, byte),
+          "answers behind the row, or of a refused replay, are not written");
     check_answers(o.length);
     if (chance(25)) {
         memcpy(kept_answers, answers.at, written);
         fill(&answers, room * sizeof(struct cuzzambra_answer), (uint8_t)~byte);
-        check(same_outcome(o, replay(source->is_rule)) && memcmp(kept_answers, answers.at, written) == 0, "a call that is made again does the same");
+        check(same_outcome(o, replay(source->is_rule)) && memcmp(kept_answers, answers.at, written) == 0,
+              "a call that is made again does the same");
     }
 }
 
@@ -349,9 +360,9 @@ static void lend_book(const struct source *source, size_t damaged)
 static void try_one(void)
 {
     static const enum entry MIX[20] = {
-        SOLVE_RULE, SOLVE_RULE, SOLVE_RULE, SOLVE_DIAGRAM, SOLVE_DIAGRAM, SOLVE_DIAGRAM, SOLVE_DIAGRAM, SOLVE_DIAGRAM,
-        SOLVE_DIAGRAM, SOLVE_DIAGRAM, ACCEPT_RULE, ACCEPT_DIAGRAM, ACCEPT_DIAGRAM, ACCEPT_DIAGRAM, ACCEPT_DIAGRAM,
-        REPLAY_RULE, REPLAY_DIAGRAM, REPLAY_DIAGRAM, REPLAY_DIAGRAM, REPLAY_DIAGRAM,
+        SOLVE_RULE,     SOLVE_RULE,    SOLVE_RULE,     SOLVE_DIAGRAM,  SOLVE_DIAGRAM,  SOLVE_DIAGRAM,  SOLVE_DIAGRAM,
+        SOLVE_DIAGRAM,  SOLVE_DIAGRAM, SOLVE_DIAGRAM,  ACCEPT_RULE,    ACCEPT_DIAGRAM, ACCEPT_DIAGRAM, ACCEPT_DIAGRAM,
+        ACCEPT_DIAGRAM, REPLAY_RULE,   REPLAY_DIAGRAM, REPLAY_DIAGRAM, REPLAY_DIAGRAM, REPLAY_DIAGRAM,
     };
     static struct bytes calls;
     entry = MIX[below(20)];

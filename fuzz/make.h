@@ -121,7 +121,8 @@ static void make_rule(struct bytes *out, size_t inputs, size_t outputs)
 }
 
 /* Words and bytes that texts may hold, put in at random places. */
-static const char *const PIECES[] = {"G", "X", "R", "U", "F", "(", ")", "!", "&", "|", " ", "\n", "a", "p", "true", "false", "in", "out", "^", "abcdefghi", "0"};
+static const char *const PIECES[] = {"G",  "X", "R", "U",    "F",     "(",  ")",   "!", "&",         "|", " ",
+                                     "\n", "a", "p", "true", "false", "in", "out", "^", "abcdefghi", "0"};
 
 static void insert(struct bytes *bytes, size_t at, const uint8_t *piece, size_t length)
 {
@@ -146,13 +147,27 @@ static void mutate_once(struct bytes *bytes)
     uint8_t any = (uint8_t)next_random();
     const char *piece = PIECES[below(sizeof PIECES / sizeof PIECES[0])];
     switch (kind) {
-    case 0: bytes->at[at] = any; break;
-    case 1: bytes->at[at] ^= (uint8_t)(1u << below(8)); break;
-    case 2: cut(bytes, at, 1 + below(bytes->length - at)); break;
-    case 3: insert(bytes, at, &any, 1); break;
-    case 4: bytes->at[at] = (uint8_t)(bytes->at[at] + 1); break;
-    case 5: insert(bytes, at, (const uint8_t *)piece, strlen(piece)); break;
-    default: cut(bytes, at, 1); break;
+    case 0:
+        bytes->at[at] = any;
+        break;
+    case 1:
+        bytes->at[at] ^= (uint8_t)(1u << below(8));
+        break;
+    case 2:
+        cut(bytes, at, 1 + below(bytes->length - at));
+        break;
+    case 3:
+        insert(bytes, at, &any, 1);
+        break;
+    case 4:
+        bytes->at[at] = (uint8_t)(bytes->at[at] + 1);
+        break;
+    case 5:
+        insert(bytes, at, (const uint8_t *)piece, strlen(piece));
+        break;
+    default:
+        cut(bytes, at, 1);
+        break;
     }
 }
 
@@ -186,7 +201,8 @@ static void make_diagram(struct bytes *out)
             index = (size_t)(record - out->at) + 4;
         }
     }
-    const uint8_t fields[6] = {(uint8_t)inputs, (uint8_t)outputs, (uint8_t)size, (uint8_t)(1 + below(size)), (uint8_t)(records >> 8), (uint8_t)records};
+    const uint8_t fields[6] = {(uint8_t)inputs,         (uint8_t)outputs, (uint8_t)size, (uint8_t)(1 + below(size)),
+                               (uint8_t)(records >> 8), (uint8_t)records};
     memcpy(out->at, fields, sizeof fields);
     out->length = first + 8 * records;
 }
