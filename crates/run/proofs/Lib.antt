@@ -1,2 +1,2 @@
-mod StageLaws
-mod StepLaws
+pub mod StageLaws
+pub mod StepLaws

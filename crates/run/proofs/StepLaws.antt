@@ -19,24 +19,24 @@ use Rattle.run.specs.Stages.{stage_position, stage_reply, stage_after, standing_
 use Rattle.run.specs.Promise.{Started, Kept, Replayed}
 use Rattle.run.proofs.StageLaws.{stage_of, same_reply, same_stage, same_standing}
 
-tallied_more : {a : Arena} (v : Values a) (cs : List Call) (c : Call) (t : Tally) → tallied v (cs ++ c ∷ []) t ≡ after v c (tallied v cs t)
+pub tallied_more : {a : Arena} (v : Values a) (cs : List Call) (c : Call) (t : Tally) → tallied v (cs ++ c ∷ []) t ≡ after v c (tallied v cs t)
 tallied_more v [] c t = refl
 tallied_more v (d ∷ cs) c t = tallied_more v cs c (after v d t)
 
 -- a call told, and the standing after it
-abbrev step_at : {a : Arena} → Values a → Call → Tally → Step
+abbrev pub step_at : {a : Arena} → Values a → Call → Tally → Step
 step_at v c t = record { reply = reply v c t; standing = standing v (after v c t) }
 
-steps_more : {a : Arena} (v : Values a) (cs : List Call) (c : Call) (t : Tally) → steps v (cs ++ c ∷ []) t ≡ steps v cs t ++ step_at v c (tallied v cs t) ∷ []
+pub steps_more : {a : Arena} (v : Values a) (cs : List Call) (c : Call) (t : Tally) → steps v (cs ++ c ∷ []) t ≡ steps v cs t ++ step_at v c (tallied v cs t) ∷ []
 steps_more v [] c t = refl
 steps_more v (d ∷ cs) c t = ap (λ xs. step_at v d t ∷ xs) (steps_more v cs c (after v d t))
 
-steps_long : {a : Arena} (v : Values a) (cs : List Call) (t : Tally) → length (steps v cs t) ≡ length cs
+pub steps_long : {a : Arena} (v : Values a) (cs : List Call) (t : Tally) → length (steps v cs t) ≡ length cs
 steps_long v [] t = refl
 steps_long v (d ∷ cs) t = ap suc (steps_long v cs (after v d t))
 
 -- one entry more in a store
-store_more : {X : Type 0} (xs ys : List X) (i : ℕ) (y : X) → length xs ≡ i → i < length ys → set (xs ++ drop i ys) i y ≡ (xs ++ y ∷ []) ++ drop (i + 1) ys
+pub store_more : {X : Type 0} (xs ys : List X) (i : ℕ) (y : X) → length xs ≡ i → i < length ys → set (xs ++ drop i ys) i y ≡ (xs ++ y ∷ []) ++ drop (i + 1) ys
 store_more xs ys i y e l = grind (arith, drop_more ys i y l, set-append_seam xs (get_or ys i y) (drop (i + 1) ys) y, append_assoc)
 
 -- a run and a store of steps after the first i calls of a row

@@ -1,0 +1,4 @@
+pub mod Outcomes
+pub mod Codes
+pub mod Rows
+pub mod Giving
