@@ -11,7 +11,10 @@ use Rattle.rules.specs.Game.{number_from}
 use Rattle.compile.specs.declared.mask.Mask.{Mask}
 use Rattle.compile.specs.declared.position.Position.{Position}
 use Rattle.compile.specs.Positions.{unused, turn_number, turn_at}
-use Rattle.compile.specs.Reads.{Agree}
+use Rattle.arena.specs.Tally.{Played}
+use Rattle.rules.specs.Rule.{bit}
+use Rattle.rules.proofs.BitLaws.{bit_of_and}
+use Rattle.compile.specs.Reads.{Alike, Small, Agree}
 use Rattle.compile.specs.Charting.{known_in, Numbers, with_move, list_next, Round, Charting}
 use Rattle.compile.proofs.ReadsLaws.{agree_shown}
 use Rattle.compile.proofs.StoreLaws.{in_store, known_count}
@@ -70,3 +73,17 @@ round_alike n o ps used p t u store m chart lt before same is =
         holds = ap (with_move p t m) (sym (cond-false _ _ _ (le-ltb used m few)));
       },
     )
+
+bit_few : (a k : ℕ) → bit a k ≤ 1
+bit_few a k = omega arith
+
+alike_from : (n a b : ℕ) → bit_and a n ≡ bit_and b n → Alike n a b
+alike_from n a b same k has = omega (arith, bit_of_and a n k, bit_of_and b n k, ap (λ z. bit z k) same, has, bit_few a k, bit_few b k)
+
+-- rounds that look alike with all other signals off agree
+pub hidden : (m : Mask) (r s : Played) → Small r → Small s → bit_and r.input m.inputs ≡ bit_and s.input m.inputs → bit_and r.output m.outputs ≡ bit_and s.output m.outputs → Agree m r s
+hidden m r s small tiny x y = record {
+  small = (small, tiny);
+  input = alike_from m.inputs r.input s.input x;
+  output = alike_from m.outputs r.output s.output y;
+}

@@ -1,5 +1,5 @@
 -- The list of a part, and a part after a round, from their sides; what a memory of lists says.
-use Rattle.std.proofs.Common.{◌≡◌, ℕ, ◌<◌, Bool, true, false, cond, ◌⊎◌, inl, inr, List, Some, None, Option, length, get_or, replicate, sym, refl, ap, ◌∙◌, subst, ⊎_elim, arith}
+use Rattle.std.proofs.Common.{◌≡◌, ℕ, ◌<◌, Bool, true, false, true≢false, cond, ◌⊎◌, inl, inr, List, Some, None, Option, length, get_or, replicate, sym, refl, ap, ◌∙◌, subst, ⊎_elim, arith}
 use lib.ListN.{length-replicate}
 use Rattle.std.proofs.lemmas.List.{get_or-replicate, get_or_past}
 use Rattle.std.proofs.lemmas.Bool.{cases_lt}
@@ -73,3 +73,21 @@ remembers_none f lists long = record {
   long = long;
   right = λ k. subst (λ b. Knows (f k) (cond b (Some (get_or lists k None)) None)) (sym (getD_equal 64 k false)) tt;
 }
+
+-- what is known stays so where the parts that are known come to the same
+pub remembers_on : (f g : ℕ → Sets) (known : List Bool) (lists : List (Option (List ℕ))) → ((k : ℕ) → k < 64 → get_or known k false ≡ true → f k ≡ g k) → Remembers f known lists → Remembers g known lists
+remembers_on f g known lists same r = record {
+  marks = r.marks;
+  long = r.long;
+  right = λ k. on k (get_or known k false) refl (r.right k);
+}
+  where
+    inside : (k : ℕ) → get_or known k false ≡ true → k < 64
+    inside k e = elim (cases_lt k 64) [
+      | inl l ↦ l
+      | inr l ↦ absurd (true≢false (sym e ∙ get_or_past known k false (omega (arith, r.marks))))
+    ]
+
+    on : (k : ℕ) (b : Bool) → get_or known k false ≡ b → Knows (f k) (cond b (Some (get_or lists k None)) None) → Knows (g k) (cond b (Some (get_or lists k None)) None)
+    on k true e h = sym (same k (inside k e) e) ∙ h
+    on k false e h = tt

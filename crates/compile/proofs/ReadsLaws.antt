@@ -16,7 +16,7 @@ use Rattle.rules.specs.Progress.{own, of_true, of_false, list_of, after_from, pa
 use Rattle.rules.proofs.BitLaws.{bit_of_and, bit_of_or, bit_own, Any, members_any}
 use Rattle.rules.proofs.StepLaws.{after_step}
 use Rattle.compile.specs.declared.mask.Mask.{Mask}
-use Rattle.compile.specs.Reads.{none, digit, mask_of, joined, reads_from, Alike, Small, Agree, Covers, Reading}
+use Rattle.compile.specs.Reads.{none, digit, mask_of, joined, reads_from, Alike, Small, Agree, Covers, Reading, Readings}
 use Rattle.compile.proofs.AfterLaws.{set_begins, list_begins}
 
 -- rounds that agree under two masks as one agree under each
@@ -103,6 +103,10 @@ module _ (ps : List Part) where
     where
       gone : (r : Played) → part_after ps r k ≡ of_true
       gone r = after_step ps falls r k ∙ ap (after_from (list_of ps) (part_after ps r) r (duty_number ps k)) (get_or_past ps k True past)
+
+  -- each mask covers its part, be it one or not
+  pub reading_all : ((k : ℕ) → Falls k (part ps k)) → (masks : List Mask) → Readings ps masks → (k : ℕ) → Covers (get_or masks k none) (λ r. part_after ps r k)
+  reading_all falls masks h k = elim (cases_lt k (length ps)) [ inl l ↦ h.reads k l | inr l ↦ past_covered falls (get_or masks k none) k l ]
 
   abbrev Covered : Mask → ℕ → Type 0
   Covered m d = Covers m (λ r. part_after ps r (duty_part ps d))

@@ -1,6 +1,7 @@
 // Signals that are read in a round.
-ghost use Rattle.std.specs.Prelude.{◌≡◌, bit_and};
-ghost use Rattle.compile.specs.Reads.{none, digit, mask_of, joined};
+ghost use Rattle.std.specs.Prelude.{◌≡◌, ◌&&◌, true, bit_and, ◌==◌};
+ghost use Rattle.compile.specs.Played.{played};
+ghost use Rattle.compile.specs.Reads.{none, digit, mask_of, joined, Agree};
 
 use crate::turn::Turn;
 use rules::part::Signal;
@@ -60,5 +61,15 @@ impl Mask {
             input: turn.input & self.inputs,
             output: turn.output & self.outputs,
         }
+    }
+
+    // Whether two rounds are alike in these signals.
+    pub(crate) fn hides(self, a: Turn, b: Turn) -> bool
+        ensures value { result ≡ ((bit_and a.input self.inputs == bit_and b.input self.inputs) && (bit_and a.output self.outputs == bit_and b.output self.outputs)) }
+        ensures agrees { result ≡ true → Agree self (played a) (played b) }
+    {
+        let one = self.shown(a);
+        let other = self.shown(b);
+        one.input == other.input && one.output == other.output
     }
 }

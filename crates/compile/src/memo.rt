@@ -5,7 +5,7 @@ ghost use Rattle.compile.specs.Known.{entry};
 use crate::list::DutyList;
 
 // Of each part whether its list is known, and what it is: none where it is too wide.
-// Kept: marks beside the lists, since all marks are cleared for each round, and the lists behind them are long.
+// Kept: marks beside the lists, since many marks are cleared for each round, and the lists behind them are long.
 #[derive(Clone, Copy)]
 pub(crate) struct Memo {
     known: [bool; 64],
@@ -23,11 +23,12 @@ impl Memo {
         }
     }
 
-    // Nothing is known any more.
-    pub(crate) fn clear(&mut self)
-        ensures { (self.new.known ≡ replicate 64 false) × (self.new.lists ≡ self.old.lists) }
+    // Forgets the list of part `k`.
+    pub(crate) fn forget(&mut self, k: usize)
+        requires { k < 64 }
+        ensures { (self.new.known ≡ slice_set self.old.known k false) × (self.new.lists ≡ self.old.lists) }
     {
-        self.known = [false; 64];
+        self.known[k] = false;
     }
 
     // What is known of the list of part `k`.

@@ -20,7 +20,7 @@ pub(crate) struct Outline<'p> {
     pub(crate) parts: &'p [Part],
     pub(crate) numbers: [u8; 64],
     pub(crate) owners: [u8; 32],
-    masks: [Mask; 64],
+    pub(crate) masks: [Mask; 64],
     ghost outlines: { Outlines parts.now numbers owners } by { outlines_prop parts.now numbers owners },
     ghost reads: { Readings parts.now masks } by { readings_prop parts.now masks },
 }

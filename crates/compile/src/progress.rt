@@ -205,18 +205,37 @@ impl<'p> Progress<'p> {
         Some(all)
     }
 
-    // A list after a round: the sets after it, in order.
-    pub(crate) fn list_after(&mut self, turn: Turn, list: &DutyList) -> Option<DutyList>
-        ensures value { Gives result (list_after (rule self.old) (played turn) (sets list.now)) }
+    // Goes on to another round. Parts that read nothing in which the two differ are known still.
+    fn turn_to(&mut self, turn: Turn)
+        ensures { (rule self.new ≡ rule self.old) × (self.new.turn ≡ turn) }
+    {
+        for k in 0..64 {
+            if !self.outline.masks[k].hides(self.turn, turn) {
+                self.afters.forget(k);
+            }
+        }
+        self.turn = turn;
+    }
+
+    // A list after the round: the sets after it, in order.
+    fn list_joined(&mut self, list: &DutyList) -> Option<DutyList>
+        ensures value { Gives result (list_after (rule self.old) (round self.old) (sets list.now)) }
         ensures stays { rule self.new ≡ rule self.old }
     {
-        self.turn = turn;
-        self.afters.clear();
         let mut any = DutyList::of_false();
         for set in list.as_slice() {
             let one = self.set_after(*set)?;
             any = either(&any, &one)?;
         }
         Some(any)
+    }
+
+    // A list after a round.
+    pub(crate) fn list_after(&mut self, turn: Turn, list: &DutyList) -> Option<DutyList>
+        ensures value { Gives result (list_after (rule self.old) (played turn) (sets list.now)) }
+        ensures stays { rule self.new ≡ rule self.old }
+    {
+        self.turn_to(turn);
+        self.list_joined(list)
     }
 }

@@ -3,7 +3,7 @@ use Rattle.rules.specs.Sets.{sets}
 use Rattle.rules.specs.Progress.{list_after}
 use Rattle.compile.specs.Known.{join_set}
 use Rattle.compile.specs.Progressing.{rule, round, Stays}
-use Rattle.compile.proofs.progress.Progress.list_after.Given as goal
+use Rattle.compile.proofs.progress.Progress.list_joined.Given as goal
 
 abbrev pub invariant-loop-set : goal.invariant-loop-set
 invariant-loop-set l = record {
