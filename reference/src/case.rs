@@ -12,7 +12,7 @@ use crate::random::Random;
 use crate::refusal::Refusal;
 use crate::report::Report;
 use crate::source::{read, read_texts, Read, Refused, Source, Within};
-use crate::tally::{written, Call, Told};
+use crate::tally::{Call, Told};
 use crate::winning::{values, Values};
 
 /// What differs, in words.
@@ -185,7 +185,7 @@ impl Case<'_> {
 
     fn row(&mut self, solved: &Solved) -> Checked {
         let lines = row(&mut self.random, solved.game, &solved.values);
-        let input: String = lines.iter().map(|line| format!("{}\n", line.call.map_or("once more".into(), written))).collect();
+        let input: String = lines.iter().map(|line| format!("{}\n", line.text)).collect();
         let book = self.product.lay_book(&solved.book)?;
         let (command, said) = self.say("run", &book, input.as_bytes())?;
         let out = String::from_utf8_lossy(&said.out).into_owned();
@@ -195,7 +195,7 @@ impl Case<'_> {
         self.report.count_many("calls of rows", lines.len() as u64);
         lines.iter().for_each(|line| self.count_refusal(line));
         if said.status != 0 || !said.err.is_empty() || !all_told {
-            let due: Vec<String> = lines.iter().map(|line| format!("{:?} told {:?}", line.call, line.told)).collect();
+            let due: Vec<String> = lines.iter().map(|line| format!("{} told {:?}", line.text, line.told)).collect();
             return Err(differs(&format!("{command}\nwith the calls\n{input}"), &due.join("\n"), &said));
         }
         self.verdicts(solved, &lines, &answers)

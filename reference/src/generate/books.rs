@@ -11,7 +11,7 @@ pub fn damaged(random: &mut Random, book: &[u8]) -> Vec<u8> {
         }
         1 => bytes.truncate(random.below(bytes.len() + 1)),
         2 => {
-            let more = *random.pick(&[1, 7, 8, 24]);
+            let more = random.pick(&[1, 7, 8, 24, 5000]);
             bytes.extend((0..more).map(|_| if random.once_in(3) { random.byte() } else { 0 }));
         }
         _ => {

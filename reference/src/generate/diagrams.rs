@@ -25,14 +25,14 @@ pub fn source(random: &mut Random) -> Source {
 }
 
 fn plan(random: &mut Random) -> Plan {
-    let (inputs, outputs) = (*random.pick(&[0, 1, 1, 1, 2, 2, 3, 4]), *random.pick(&[0, 1, 1, 1, 2, 2, 3, 4]));
+    let (inputs, outputs) = (random.pick(&[0, 1, 1, 1, 2, 2, 3, 4]), random.pick(&[0, 1, 1, 1, 2, 2, 3, 4]));
     let rounds = 1 << (inputs + outputs);
     let most = (if random.once_in(20) { 4100 } else { 300 } / rounds).clamp(1, 255);
     let size = match random.below(4) {
         0 => random.between(1, most),
         _ => random.between(1, most.min(9)),
     };
-    let (gaps, falling) = (*random.pick(&[2, 3, 5, 20, 400]), random.once_in(3));
+    let (gaps, falling) = (random.pick(&[2, 3, 5, 20, 400]), random.once_in(3));
     let chains = (1..=size).map(|position| chain(random, position, size, [inputs, outputs, gaps], falling)).collect();
     Plan { inputs, outputs, start: random.between(1, size), chains }
 }
@@ -84,7 +84,7 @@ fn spoil(random: &mut Random, size: usize, bytes: &mut Vec<u8>) {
     match random.below(8) {
         0 => {
             let at = random.below(HEADER);
-            put(bytes, at, random.pick(&[0, 1, 2, 4, 5, 255]).to_owned());
+            put(bytes, at, random.pick(&[0, 1, 2, 4, 5, 255]));
         }
         1 => bytes.truncate(random.below(bytes.len() + 1)),
         2 => (0..random.between(1, 9)).for_each(|_| bytes.push(0)),

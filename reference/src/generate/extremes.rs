@@ -26,8 +26,8 @@ fn with_rule(random: &mut Random, names: &Names, words: &[Vec<u8>]) -> Source {
 }
 
 fn spread(random: &mut Random, text: &mut Vec<u8>) {
-    let length = random.between(1021, 1028);
-    let blank = |random: &mut Random| *random.pick(b"  \n");
+    let length = if random.once_in(8) { random.between(1029, 5000) } else { random.between(1021, 1028) };
+    let blank = |random: &mut Random| random.pick(b"  \n");
     let before = random.below(length.saturating_sub(text.len()) + 1);
     let lead: Vec<u8> = (0..before).map(|_| blank(random)).collect();
     text.splice(0..0, lead);
@@ -64,30 +64,29 @@ fn crowded(random: &mut Random) -> Source {
 fn deep(random: &mut Random) -> Source {
     let names = Names::of(random, 1, 1);
     let levels = random.between(30, 35);
-    let only = *random.pick(&["", "", "X", "G", "(", "R"]);
-    let mut open: Words = Vec::new();
-    let mut brackets = 0;
+    let only = random.pick(&["", "", "X", "G", "(", "R"]);
+    let mut said: Words = Vec::new();
     for _ in 0..levels {
-        let level = if only.is_empty() { *random.pick(&["X", "G", "(", "(", "(", "R"]) } else { only };
-        let follows = if level == "R" { format!("{} R", names.pick(random)) } else { level.into() };
-        let after_unary = open.last().is_some_and(|w| w == b"X" || w == b"G");
-        let fits = if after_unary && level == "R" { "(".to_string() } else { follows };
-        brackets += usize::from(fits == "(");
-        open.extend(words(&fits));
+        let level = if only.is_empty() { random.pick(&["X", "G", "(", "(", "(", "R"]) } else { only };
+        let in_unit = said.last().is_some_and(|w| w == b"X" || w == b"G");
+        match level {
+            "R" if in_unit => said.extend(words("(")),
+            "R" => said.extend(words(&format!("{} R", names.pick(random)))),
+            _ => said.extend(words(level)),
+        }
     }
-    open.extend(words(*random.pick(&["lock", "true", ")", "^", "door & door", "false | U"])));
+    let brackets = said.iter().filter(|w| *w == b"(").count();
+    let name = names.pick(random);
+    said.extend(words(random.pick(&[name, "true", "false", ")", "^", "true & false", "false | U", "true R true"])));
     let closed = if random.once_in(6) { random.below(brackets + 2) } else { brackets };
-    open.extend((0..closed).map(|_| b")".to_vec()));
-    let signals = set(random, &words("in door out lock"));
-    let text = open.concat();
-    let text = if text.len() < 1000 { set(random, &open) } else { text };
-    Source::Texts { signals, rule: text }
+    said.extend((0..closed).map(|_| b")".to_vec()));
+    with_rule(random, &names, &said)
 }
 
 /// About 64 parts.
 fn many_parts(random: &mut Random) -> Source {
     let names = Names::of(random, 1, 1);
-    let mark = *random.pick(&["|", "&"]);
+    let mark = random.pick(&["|", "&"]);
     let all = names.all();
     let terms = random.between(60, 67);
     let mut said: Words = words(all[0]);
@@ -96,7 +95,7 @@ fn many_parts(random: &mut Random) -> Source {
         said.extend(words(all[k % 2]));
     }
     if random.once_in(4) {
-        said.extend(words(*random.pick(&["^", "luck", "X", "R true"])));
+        said.extend(words(random.pick(&["^", "luck", "X", "R true"])));
     }
     with_rule(random, &names, &said)
 }
@@ -105,14 +104,14 @@ fn many_parts(random: &mut Random) -> Source {
 fn many_duties(random: &mut Random) -> Source {
     let names = Names::of(random, 1, 1);
     let levels = random.between(28, 32);
-    let only = *random.pick(&["X", "G", ""]);
+    let only = random.pick(&["X", "G", ""]);
     let mut said: Words = Vec::new();
     for _ in 0..levels {
-        said.extend(words(if only.is_empty() { *random.pick(&["X", "G"]) } else { only }));
+        said.extend(words(if only.is_empty() { random.pick(&["X", "G"]) } else { only }));
     }
     said.extend(words(names.pick(random)));
     for _ in 0..random.below(5) {
-        said.extend(words(*random.pick(&["& X", "| X", "& G", "| G X", "& !"])));
+        said.extend(words(random.pick(&["& X", "| X", "& G", "| G X", "& !"])));
         said.extend(words(names.pick(random)));
     }
     with_rule(random, &names, &said)
@@ -125,15 +124,15 @@ fn wide(random: &mut Random) -> Source {
     let all = names.all();
     let pair = |random: &mut Random, k: usize| {
         let name = all[k % all.len()];
-        let other = *random.pick(&all);
-        let not = *random.pick(&["", "", "!"]);
-        let next = *random.pick(&["X", "X X", "G", "X !"]);
+        let other = random.pick(&all);
+        let not = random.pick(&["", "", "!"]);
+        let next = random.pick(&["X", "X X", "G", "X !"]);
         let other = if next.ends_with('!') || random.once_in(2) { name } else { other };
         format!("( {not} {name} | {next} {other} )")
     };
     let units: Vec<String> = (0..random.between(4, 7)).map(|k| pair(random, k)).collect();
     let body = units.join(" & ");
-    let name = *random.pick(&all);
+    let name = random.pick(&all);
     let said = match random.below(8) {
         0 | 1 => body,
         2 => format!("X ( {body} )"),
@@ -152,7 +151,7 @@ fn many_positions(random: &mut Random) -> Source {
     let (input, output) = (names.inputs[0], names.outputs[0]);
     let one = |random: &mut Random, most: usize| {
         let delay = "X ".repeat(random.between(1, most));
-        let not = *random.pick(&["!", ""]);
+        let not = random.pick(&["!", ""]);
         format!("G ( {not} {input} | {delay} {output} )")
     };
     let said = match random.below(3) {
@@ -167,7 +166,7 @@ fn many_positions(random: &mut Random) -> Source {
 fn start_lost(random: &mut Random) -> Source {
     let names = Names::random(random);
     let size = random.between(1, 4);
-    let mut said = words(*random.pick(&["false &", "false |", "( false ) &", "X false &", "G false &", "true &"]));
+    let mut said = words(random.pick(&["false &", "false |", "( false ) &", "X false &", "G false &", "true &"]));
     said.push(b"(".to_vec());
     said.extend(rule(random, &names, size));
     said.push(b")".to_vec());

@@ -9,7 +9,7 @@ const MARKS: [&str; 19] =
 
 fn stray(random: &mut Random, names: &Names) -> Vec<u8> {
     let name = names.pick(random);
-    let word = if random.once_in(4) { name } else { *random.pick(&MARKS) };
+    let word = if random.once_in(4) { name } else { random.pick(&MARKS) };
     word.as_bytes().to_vec()
 }
 
@@ -29,7 +29,7 @@ fn change_byte(random: &mut Random, text: &mut Vec<u8>) {
     let at = random.below(text.len() + 1);
     let byte = match random.below(3) {
         0 => random.byte(),
-        1 => *random.pick(b"ab19XGRUF&|!() \n\t\r"),
+        1 => random.pick(b"ab19XGRUF&|!() \n\t\r"),
         _ => text.get(at).copied().unwrap_or(b' '),
     };
     match random.below(3) {

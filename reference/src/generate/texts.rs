@@ -19,8 +19,8 @@ pub struct Names {
 
 impl Names {
     pub fn random(random: &mut Random) -> Names {
-        let inputs = *random.pick(&[0, 1, 1, 1, 2, 2, 2, 3, 4]);
-        let outputs = *random.pick(&[0, 1, 1, 1, 2, 2, 2, 3, 4]);
+        let inputs = random.pick(&[0, 1, 1, 1, 2, 2, 2, 3, 4]);
+        let outputs = random.pick(&[0, 1, 1, 1, 2, 2, 2, 3, 4]);
         Names::of(random, inputs, outputs)
     }
 
@@ -41,7 +41,7 @@ impl Names {
         if all.is_empty() {
             return "luck";
         }
-        *random.pick(&all)
+        random.pick(&all)
     }
 
     pub fn words(&self) -> Words {
@@ -97,31 +97,34 @@ impl Writer<'_> {
         self.words.push(word.as_bytes().to_vec());
     }
 
-    /// Writes a thing of `left` leaves, the word and one of the others; or only one of them.
-    fn two(&mut self, size: usize, share: usize, word: &str, one: fn(&mut Self, usize), two: fn(&mut Self, usize)) {
-        if size < 2 || !self.random.once_in(share) {
-            return if word == "R" { one(self, size) } else { two(self, size) };
-        }
-        let left = self.random.between(1, size - 1);
-        one(self, left);
-        self.word(word);
-        two(self, size - left);
+    /// The size of the left side, once in `share` times and where there are two leaves.
+    fn left(&mut self, size: usize, share: usize) -> Option<usize> {
+        (size > 1 && self.random.once_in(share)).then(|| self.random.between(1, size - 1))
     }
 
     fn rule(&mut self, size: usize) {
-        self.two(size, 4, "R", Self::choice, Self::rule);
+        let Some(left) = self.left(size, 4) else { return self.choice(size) };
+        self.choice(left);
+        self.word("R");
+        self.rule(size - left);
     }
 
     fn choice(&mut self, size: usize) {
-        self.two(size, 3, "|", Self::choice, Self::join);
+        let Some(left) = self.left(size, 3) else { return self.join(size) };
+        self.choice(left);
+        self.word("|");
+        self.join(size - left);
     }
 
     fn join(&mut self, size: usize) {
-        self.two(size, 2, "&", Self::join, Self::unit);
+        let Some(left) = self.left(size, 2) else { return self.unit(size) };
+        self.join(left);
+        self.word("&");
+        self.unit(size - left);
     }
 
     fn unit(&mut self, size: usize) {
-        let mark = *self.random.pick(&["", "", "X", "X", "G"]);
+        let mark = self.random.pick(&["", "", "X", "X", "G"]);
         if !mark.is_empty() {
             self.word(mark);
             return self.unit(size);
@@ -163,6 +166,6 @@ pub fn set(random: &mut Random, words: &[Vec<u8>]) -> Vec<u8> {
         text.extend(word);
     }
     let behind = if wild { random.below(3) } else { 0 };
-    text.extend((0..behind).map(|_| *random.pick(b" \n")));
+    text.extend((0..behind).map(|_| random.pick(b" \n")));
     text
 }
