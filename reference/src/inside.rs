@@ -39,6 +39,9 @@ pub fn verdicts(read: &[Read], game: &Game, random: &mut Random, report: &mut Re
         if lost != (game.reached(&rounds) == LOST) {
             return Err(format!("lists of duties and the negation differ after {rounds:?}"));
         }
+        if read.iter().any(|source| !source.agrees_on(&rounds)) {
+            return Err(format!("a rule fails and its negation is not true, or the other way round, after {rounds:?}"));
+        }
         report.count("verdicts: lists and negation");
         let (input, output) = (random.below(game.input_numbers()), random.below(game.output_numbers()));
         rounds.push(Round { input, output });

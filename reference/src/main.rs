@@ -6,6 +6,7 @@ mod compare;
 mod controllers;
 mod diagram;
 mod explore;
+mod failing;
 mod game;
 mod generate;
 mod grammar;

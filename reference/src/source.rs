@@ -2,6 +2,7 @@
 
 use crate::diagram;
 use crate::explore::explore;
+use crate::failing::fails;
 use crate::game::{Game, Round, LOST};
 use crate::negation::Goal;
 use crate::refusal::Refusal;
@@ -73,5 +74,11 @@ impl Read {
             Some(rule) => Goal::against(rule).is_true(&low),
             None => self.game.reached(&low) == LOST,
         }
+    }
+
+    /// A rule fails after these rounds exactly when its negation is true of them.
+    pub fn agrees_on(&self, rounds: &[Round]) -> bool {
+        let low: Vec<Round> = rounds.iter().map(|round| round.low(&self.game)).collect();
+        self.said.iter().all(|rule| fails(rule, &low) == Goal::against(rule).is_true(&low))
     }
 }
