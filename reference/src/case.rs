@@ -195,7 +195,7 @@ impl Case<'_> {
         self.report.count_many("calls of rows", lines.len() as u64);
         lines.iter().for_each(|line| self.count_refusal(line));
         if said.status != 0 || !said.err.is_empty() || !all_told {
-            let due: Vec<String> = lines.iter().map(|line| format!("{} told {:?}", line.text, line.told)).collect();
+            let due: Vec<String> = lines.iter().map(|line| format!("{}: {}", line.text, line.told.map_or("no call".into(), |told| told.to_string()))).collect();
             return Err(differs(&format!("{command}\nwith the calls\n{input}"), &due.join("\n"), &said));
         }
         self.verdicts(solved, &lines, &answers)
@@ -205,7 +205,7 @@ impl Case<'_> {
         match &line.told {
             Some(Told::Refused(refusal)) => self.report.refused(refusal.number),
             Some(Told::NotAllowed) => self.report.count("calls not allowed"),
-            Some(Told::Served(_)) => {}
+            Some(_) => {}
             None => self.report.count("lines that are no calls"),
         }
     }
@@ -236,9 +236,8 @@ impl Case<'_> {
 
 fn is_told(answer: &str, line: &Line) -> bool {
     match &line.told {
-        Some(Told::Served(said)) => answer == said,
         Some(Told::Refused(refusal)) => answer.starts_with(&refusal.head()) && answer.len() > refusal.head().len(),
-        Some(Told::NotAllowed) => answer == "not allowed here",
+        Some(told) => answer == told.to_string(),
         None => answer.contains("call") && answer.contains("open"),
     }
 }

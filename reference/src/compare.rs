@@ -1,12 +1,16 @@
 //! Many cases, on several threads: the first difference ends it.
 
 use crate::case::{self, Difference};
+#[cfg(feature = "library")]
+use crate::{generate, linked, random::Random};
 use crate::product::Product;
 use crate::report::Report;
 use std::path::{Path, PathBuf};
 use std::sync::atomic::{AtomicBool, Ordering};
 
 pub struct Plan {
+    /// Calls the product's library, not its program.
+    pub library: bool,
     pub program: PathBuf,
     pub folder: PathBuf,
     pub seed: u64,
@@ -50,10 +54,27 @@ fn cases(plan: &Plan, job: u64, stop: &AtomicBool) -> (Report, Option<Found>) {
     let mine = (plan.first..plan.first + plan.cases).filter(|case| case % plan.jobs == job);
     for case in mine.take_while(|_| !stop.load(Ordering::Relaxed)) {
         report.count("cases");
-        if let Err(difference) = case::run(&product, plan.seed, case, &mut report) {
+        if let Err(difference) = one_case(plan, &product, case, &mut report) {
             stop.store(true, Ordering::Relaxed);
             return (report, Some(Found { case, folder: product.folder().to_path_buf(), difference }));
         }
     }
     (report, None)
+}
+
+#[cfg(feature = "library")]
+fn one_case(plan: &Plan, product: &Product, number: u64, report: &mut Report) -> Result<(), Difference> {
+    if !plan.library {
+        return case::run(product, plan.seed, number, report);
+    }
+    let outcome = linked::run(plan.seed, number, report);
+    if outcome.is_err() {
+        product.lay(&generate::sources(&mut Random::of_case(plan.seed, number)))?;
+    }
+    outcome
+}
+
+#[cfg(not(feature = "library"))]
+fn one_case(plan: &Plan, product: &Product, number: u64, report: &mut Report) -> Result<(), Difference> {
+    case::run(product, plan.seed, number, report)
 }

@@ -12,6 +12,10 @@ mod generate;
 mod grammar;
 mod horn;
 mod inside;
+#[cfg(feature = "library")]
+mod library;
+#[cfg(feature = "library")]
+mod linked;
 mod lists;
 mod negation;
 mod parts;
@@ -30,7 +34,7 @@ mod words;
 use compare::{compare, Plan};
 use std::process::ExitCode;
 
-const USAGE: &str = "compare [--seed N] [--first K] [--cases M] [--jobs J] [--program FILE] [--folder FOLDER]";
+const USAGE: &str = "compare|compare-library [--seed N] [--first K] [--cases M] [--jobs J] [--program FILE] [--folder FOLDER]";
 
 fn main() -> ExitCode {
     let args: Vec<String> = std::env::args().skip(1).collect();
@@ -47,6 +51,7 @@ fn plan(args: &[String]) -> Option<Plan> {
     let [command, options @ ..] = args else { return None };
     let mut plan = Plan {
         program: "crates/playbook/out/playbook".into(),
+        library: command == "compare-library",
         folder: std::env::temp_dir().join(format!("reference{}", std::process::id())),
         seed: 1,
         first: 0,
@@ -65,7 +70,7 @@ fn plan(args: &[String]) -> Option<Plan> {
             _ => return None,
         }
     }
-    (command == "compare").then_some(plan)
+    (command == "compare" || plan.library && cfg!(feature = "library")).then_some(plan)
 }
 
 fn report(plan: &Plan) -> ExitCode {

@@ -3,6 +3,7 @@
 use crate::game::{Game, Round, LOST};
 use crate::refusal::Refusal;
 use crate::winning::{Count, Values};
+use std::fmt;
 
 #[derive(Clone, Copy, PartialEq, Debug)]
 pub enum Call {
@@ -16,11 +17,37 @@ pub enum Call {
 }
 
 /// What a call is told.
-#[derive(Clone, PartialEq, Debug)]
+#[derive(Clone, Copy, PartialEq, Debug)]
 pub enum Told {
-    Served(String),
+    Output(usize),
+    Set,
+    Closed,
+    Abandoned,
+    Position(Option<usize>),
+    Count(Count),
+    Spoiling(Option<usize>),
     Refused(Refusal),
     NotAllowed,
+}
+
+impl fmt::Display for Told {
+    /// A line of `run`; of a refusal only its head.
+    fn fmt(&self, f: &mut fmt::Formatter) -> fmt::Result {
+        let or_none = |number: &Option<usize>| number.map_or("none".into(), |n| n.to_string());
+        match self {
+            Told::Output(output) => write!(f, "output {output}"),
+            Told::Set => write!(f, "set"),
+            Told::Closed => write!(f, "closed"),
+            Told::Abandoned => write!(f, "abandoned"),
+            Told::Position(position) => write!(f, "position {}", or_none(position)),
+            Told::Count(Count::Lost) => write!(f, "count -1"),
+            Told::Count(Count::Limited(count)) => write!(f, "count {count}"),
+            Told::Count(Count::Unlimited) => write!(f, "count unlimited"),
+            Told::Spoiling(input) => write!(f, "spoiling {}", or_none(input)),
+            Told::Refused(refusal) => write!(f, "{}", refusal.head()),
+            Told::NotAllowed => write!(f, "not allowed here"),
+        }
+    }
 }
 
 pub struct Tally<'g> {
@@ -39,6 +66,10 @@ impl<'g> Tally<'g> {
         self.game.reached(&self.closed)
     }
 
+    pub fn count(&self) -> Count {
+        self.values.counts[self.position()]
+    }
+
     pub fn is_open(&self) -> bool {
         self.open.is_some()
     }
@@ -55,13 +86,15 @@ impl<'g> Tally<'g> {
             (Call::Close, Some(round)) => {
                 self.closed.push(round);
                 self.open = None;
-                Told::Served("closed".into())
+                Told::Closed
             }
             (Call::Abandon, Some(_)) => {
                 self.open = None;
-                Told::Served("abandoned".into())
+                Told::Abandoned
             }
-            (Call::Position | Call::Count | Call::Spoiling, _) => Told::Served(self.question(call)),
+            (Call::Position, _) => Told::Position(Some(self.position()).filter(|p| *p != LOST)),
+            (Call::Count, _) => Told::Count(self.count()),
+            (Call::Spoiling, _) => Told::Spoiling(self.spoiling()),
         }
     }
 
@@ -74,7 +107,7 @@ impl<'g> Tally<'g> {
         }
         let output = self.values.answers[self.position()][input];
         self.open = Some(Round { input, output });
-        Told::Served(format!("output {output}"))
+        Told::Output(output)
     }
 
     fn set(&mut self, round: Round) -> Told {
@@ -82,21 +115,7 @@ impl<'g> Tally<'g> {
             return Told::Refused(Refusal::new(19, 0));
         }
         self.open = Some(round);
-        Told::Served("set".into())
-    }
-
-    fn question(&self, call: Call) -> String {
-        let position = self.position();
-        let or_none = |number: Option<usize>| number.map_or("none".into(), |n| n.to_string());
-        match call {
-            Call::Position => format!("position {}", or_none((position != LOST).then_some(position))),
-            Call::Spoiling => format!("spoiling {}", or_none(self.spoiling())),
-            _ => match self.values.counts[position] {
-                Count::Lost => "count -1".into(),
-                Count::Limited(count) => format!("count {count}"),
-                Count::Unlimited => "count unlimited".into(),
-            },
-        }
+        Told::Set
     }
 }
 
