@@ -80,8 +80,8 @@ impl Case<'_> {
         let err = String::from_utf8_lossy(&said.err).into_owned();
         let (first, rest) = err.split_once('\n').unwrap_or((&err, ""));
         let is_told = first.starts_with(&refusal.head()) && first.ends_with(end) && first.len() > refusal.head().len() + end.len();
-        self.report.refused(refusal.number);
         if said.status == 1 && said.out.is_empty() && is_told && rest == below {
+            self.report.refused(refusal.number);
             return Ok(());
         }
         Err(differs(&line, &format!("{}...{end}\n{below}", refusal.head()), &said))
@@ -112,14 +112,11 @@ impl Case<'_> {
     }
 
     fn games(&mut self) -> Checked {
-        let mut games = Vec::new();
-        let command = any_command(&mut self.random);
-        for number in 0..self.sources.len() {
-            match read(&self.sources[number]) {
-                Ok(game) => games.push(game),
-                Err(refused) => return self.refuses_source(command, &[], number, refused),
-            }
+        let read: Vec<Result<Read, Refused>> = self.sources.iter().map(read).collect();
+        if read.iter().any(Result::is_err) {
+            return self.refused(&read);
         }
+        let games: Vec<Read> = read.into_iter().flatten().collect();
         let paired = games[1..].iter().fold(games[0].game.clone(), |one, two| Game::pair(&one, &two.game));
         if paired.size == 0 {
             return self.size_zero();
@@ -129,6 +126,16 @@ impl Case<'_> {
         let book = book(&paired, &values);
         let solved = Solved { game: &paired, values, book, read: &games };
         self.game(&solved)
+    }
+
+    /// Where both sources of a pair are refused, the documents leave open which refusal is told.
+    fn refused(&mut self, read: &[Result<Read, Refused>]) -> Checked {
+        let command = any_command(&mut self.random);
+        let wrong: Vec<(usize, Refused)> =
+            read.iter().enumerate().filter_map(|(number, read)| Some((number, *read.as_ref().err()?))).collect();
+        let told: Vec<Checked> =
+            wrong.iter().map(|(number, refused)| self.refuses_source(command, &[], *number, *refused)).collect();
+        told.into_iter().reduce(Result::or).expect("a source is refused")
     }
 
     /// A pair that is too large: whatever the book, 17 comes first.
