@@ -100,8 +100,10 @@ impl Linked<'_> {
     }
 
     fn books(&mut self, solved: &Solved) -> Checked {
-        self.book(solved, &solved.book)?;
-        for _ in 0..3 {
+        if self.random.once_in(2) {
+            self.book(solved, &solved.book)?;
+        }
+        for _ in 0..2 {
             let bytes = books::damaged(self.random, &solved.book);
             self.book(solved, &bytes)?;
         }
