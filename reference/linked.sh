@@ -1,6 +1,5 @@
 #!/bin/sh
-# Compares the product's C library with the reference over random cases, a thousand times as many a minute as by the
-# program.
+# Compares the product's C library with the reference over random cases, with no process for each case.
 #
 #     reference/linked.sh [CASES [SEED]]
 #

@@ -144,6 +144,7 @@ impl Case<'_> {
         let book = self.product.lay_book(&[1, 0, 0, 0, 0, 0, 0, 0])?;
         let refusal = Refusal::new(17, 0);
         self.refuses("solve", &[], refusal, "", "")?;
+        self.refuses("show", &[], refusal, "", "")?;
         self.refuses("check", &book, refusal, "", "")?;
         self.refuses("run", &book, refusal, "", "")
     }

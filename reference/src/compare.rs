@@ -26,6 +26,9 @@ pub struct Found {
     pub difference: Difference,
 }
 
+/// Every so many cases a line says how far it is.
+const PROGRESS: u64 = 50_000;
+
 /// Deep texts make deep trees.
 const STACK: usize = 256 << 20;
 
@@ -54,6 +57,9 @@ fn cases(plan: &Plan, job: u64, stop: &AtomicBool) -> (Report, Option<Found>) {
     let mine = (plan.first..plan.first + plan.cases).filter(|case| case % plan.jobs == job);
     for case in mine.take_while(|_| !stop.load(Ordering::Relaxed)) {
         report.count("cases");
+        if case > plan.first && case % PROGRESS == 0 {
+            eprintln!("at case {case}");
+        }
         if let Err(difference) = one_case(plan, &product, case, &mut report) {
             stop.store(true, Ordering::Relaxed);
             return (report, Some(Found { case, folder: product.folder().to_path_buf(), difference }));

@@ -14,7 +14,7 @@ struct Plan {
 }
 
 pub fn source(random: &mut Random) -> Source {
-    let plan = plan(random);
+    let plan = if random.once_in(150) { crowded(random) } else { plan(random) };
     let mut bytes = drawn(random, &plan);
     if random.once_in(3) {
         for _ in 0..random.between(1, 2) {
@@ -35,6 +35,15 @@ fn plan(random: &mut Random) -> Plan {
     let (gaps, falling) = (random.pick(&[2, 3, 5, 20, 400]), random.once_in(3));
     let chains = (1..=size).map(|position| chain(random, position, size, [inputs, outputs, gaps], falling)).collect();
     Plan { inputs, outputs, start: random.between(1, size), chains }
+}
+
+/// About 4,000 records.
+fn crowded(random: &mut Random) -> Plan {
+    let mut chains: Vec<Vec<[usize; 3]>> = (1..=16).map(|position| chain(random, position, 16, [4, 4, 1 << 40], false)).collect();
+    for _ in random.between(3997, 4003)..4096 {
+        chains[random.below(16)].pop();
+    }
+    Plan { inputs: 4, outputs: 4, start: random.between(1, 16), chains }
 }
 
 /// The moves of a position, in any order; one in `gaps` is left out.
