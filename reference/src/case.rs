@@ -79,7 +79,8 @@ impl Case<'_> {
         let (line, said) = self.say(command, more, b"")?;
         let err = String::from_utf8_lossy(&said.err).into_owned();
         let (first, rest) = err.split_once('\n').unwrap_or((&err, ""));
-        let is_told = first.starts_with(&refusal.head()) && first.ends_with(end) && first.len() > refusal.head().len() + end.len();
+        let words = first.strip_prefix(&refusal.head()).and_then(|words| words.strip_suffix(end));
+        let is_told = words.is_some_and(|words| !words.is_empty());
         if said.status == 1 && said.out.is_empty() && is_told && rest == below {
             self.report.refused(refusal.number);
             return Ok(());
@@ -198,13 +199,15 @@ impl Case<'_> {
         let (command, said) = self.say("run", &book, input.as_bytes())?;
         let out = String::from_utf8_lossy(&said.out).into_owned();
         let answers: Vec<&str> = out.lines().collect();
-        let all_told = answers.len() == lines.len() && answers.iter().zip(&lines).all(|(answer, line)| is_told(answer, line));
+        let right = answers.iter().zip(&lines).all(|(answer, line)| is_told(answer, line));
+        let all_told = right && answers.len() == lines.len();
         self.report.count("rows");
         self.report.count_many("calls of rows", lines.len() as u64);
         lines.iter().for_each(|line| self.count_refusal(line));
         if said.status != 0 || !said.err.is_empty() || !all_told {
-            let due: Vec<String> = lines.iter().map(|line| format!("{}: {}", line.text, line.told.map_or("no call".into(), |told| told.to_string()))).collect();
-            return Err(differs(&format!("{command}\nwith the calls\n{input}"), &due.join("\n"), &said));
+            let told = |line: &Line| line.told.map_or("that it is no call".into(), |told| told.to_string());
+            let due: String = lines.iter().map(|line| format!("{}: {}\n", line.text, told(line))).collect();
+            return Err(differs(&format!("{command}\nwith the calls\n{input}"), &due, &said));
         }
         self.verdicts(solved, &lines, &answers)
     }
@@ -234,8 +237,9 @@ impl Case<'_> {
             }
             let lost = solved.read.iter().any(|source| source.is_lost_after(&closed));
             self.report.count("verdicts: product and negation");
-            if lost != (answers[k + 1] == "position none") {
-                return Err(Difference(format!("the negation says lost: {lost}, the product {:?}\n{closed:?}", answers[k + 1])));
+            let said = answers[k + 1];
+            if lost != (said == "position none") {
+                return Err(Difference(format!("the negation says lost: {lost}, the product {said}\n{closed:?}")));
             }
         }
         Ok(())

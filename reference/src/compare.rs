@@ -1,10 +1,10 @@
 //! Many cases, on several threads: the first difference ends it.
 
 use crate::case::{self, Difference};
-#[cfg(feature = "library")]
-use crate::{generate, linked, random::Random};
 use crate::product::Product;
 use crate::report::Report;
+#[cfg(feature = "library")]
+use crate::{generate, linked, random::Random};
 use std::path::{Path, PathBuf};
 use std::sync::atomic::{AtomicBool, Ordering};
 

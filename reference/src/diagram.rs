@@ -120,9 +120,8 @@ mod tests {
     use super::*;
     use crate::winning::{counts, Count};
 
-    const EXAMPLE: [u8; 36] = [
-        1, 1, 2, 1, 0, 3, 0, 0, 0, 1, 0, 3, 0, 0, 1, 0, 0, 2, 0, 0, 1, 1, 2, 0, 0, 0, 0, 0, 0, 0, 1, 0, 0, 0, 0, 0,
-    ];
+    const EXAMPLE: [u8; 36] =
+        [1, 1, 2, 1, 0, 3, 0, 0, 0, 1, 0, 3, 0, 0, 1, 0, 0, 2, 0, 0, 1, 1, 2, 0, 0, 0, 0, 0, 0, 0, 1, 0, 0, 0, 0, 0];
 
     fn with(place: usize, byte: u8) -> Result<Game, Refusal> {
         let mut bytes = EXAMPLE;

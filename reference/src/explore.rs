@@ -78,13 +78,13 @@ impl Search<'_> {
     }
 
     fn list_after(&self, position: usize, round: usize) -> Width {
-        let sets = self.lists[position - 1].sets().iter();
-        sets.fold(Ok(List::lost()), |list, set| or(&list, &self.set_after(*set, round)))
+        let mut sets = self.lists[position - 1].sets().iter();
+        sets.try_fold(List::lost(), |list, set| or(&Ok(list), &self.set_after(*set, round)))
     }
 
     fn set_after(&self, set: Set, round: usize) -> Width {
-        let duties = self.parts.duties().iter().enumerate().filter(|(d, _)| set >> d & 1 == 1);
-        duties.fold(Ok(List::met()), |list, (_, part)| and(&list, &self.after[round][*part]))
+        let mut duties = self.parts.duties().iter().enumerate().filter(|(d, _)| set >> d & 1 == 1);
+        duties.try_fold(List::met(), |list, (_, part)| and(&Ok(list), &self.after[round][*part]))
     }
 
     fn number(&mut self, list: List) -> Result<usize, Refusal> {

@@ -29,7 +29,9 @@ pub fn counts(game: &Game) -> Vec<Count> {
     while let Some(place) = news.pop_front() {
         news.extend(clauses.propagate(place));
     }
-    let count = |step: &Option<usize>| step.map_or(Count::Unlimited, |s| if s == 0 { Count::Lost } else { Count::Limited(s - 1) });
+    let count = |step: &Option<usize>| {
+        step.map_or(Count::Unlimited, |s| if s == 0 { Count::Lost } else { Count::Limited(s - 1) })
+    };
     clauses.losing.iter().map(count).collect()
 }
 

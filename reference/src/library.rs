@@ -41,7 +41,8 @@ extern "C" {
         book: *mut u8,
         book_length: usize,
     ) -> Outcome;
-    fn cuzzambra_solve_diagram(diagram: *const u8, diagram_length: usize, book: *mut u8, book_length: usize) -> Outcome;
+    fn cuzzambra_solve_diagram(diagram: *const u8, diagram_length: usize, book: *mut u8, book_length: usize)
+        -> Outcome;
     fn cuzzambra_accept_rule(
         signals: *const u8,
         signals_length: usize,
@@ -106,9 +107,7 @@ pub fn replay(source: &Source, book: &[u8], row: &[Entry], answers: &mut [Answer
     let (c, c_len) = (row.as_ptr(), row.len());
     let (a, a_len) = (answers.as_mut_ptr(), answers.len());
     match source {
-        Source::Diagram(d) => unsafe {
-            cuzzambra_replay_diagram(d.as_ptr(), d.len(), b, b_len, c, c_len, a, a_len)
-        },
+        Source::Diagram(d) => unsafe { cuzzambra_replay_diagram(d.as_ptr(), d.len(), b, b_len, c, c_len, a, a_len) },
         Source::Texts { signals: s, rule: r } => unsafe {
             cuzzambra_replay_rule(s.as_ptr(), s.len(), r.as_ptr(), r.len(), b, b_len, c, c_len, a, a_len)
         },

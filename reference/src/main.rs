@@ -34,7 +34,8 @@ mod words;
 use compare::{compare, Plan};
 use std::process::ExitCode;
 
-const USAGE: &str = "compare|compare-library [--seed N] [--first K] [--cases M] [--jobs J] [--program FILE] [--folder FOLDER]";
+const USAGE: &str =
+    "compare|compare-library [--seed N] [--first K] [--cases M] [--jobs J] [--program FILE] [--folder FOLDER]";
 
 fn main() -> ExitCode {
     let args: Vec<String> = std::env::args().skip(1).collect();
@@ -84,7 +85,12 @@ fn report(plan: &Plan) -> ExitCode {
             ExitCode::SUCCESS
         }
         Some(found) => {
-            println!("difference in case {} of seed {}, with the files in {}", found.case, plan.seed, found.folder.display());
+            println!(
+                "difference in case {} of seed {}, with the files in {}",
+                found.case,
+                plan.seed,
+                found.folder.display()
+            );
             println!("{}", found.difference.0);
             ExitCode::FAILURE
         }

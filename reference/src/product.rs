@@ -47,7 +47,9 @@ impl Product {
         let mut words = Words::new();
         for (k, source) in sources.iter().enumerate() {
             match source {
-                Source::Diagram(bytes) => words.extend(["--diagram".into(), self.write(&format!("diagram{k}"), bytes)?]),
+                Source::Diagram(bytes) => {
+                    words.extend(["--diagram".into(), self.write(&format!("diagram{k}"), bytes)?])
+                }
                 Source::Texts { signals, rule } => {
                     words.push("--rule".into());
                     words.push(self.write(&format!("signals{k}"), signals)?);

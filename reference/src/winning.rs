@@ -73,8 +73,11 @@ fn spoiling(game: &Game, counts: &[Count], position: usize, answers: &[usize]) -
     if !matches!(counts[position], Count::Limited(_)) {
         return None;
     }
-    let left: Vec<Count> =
-        answers.iter().enumerate().map(|(input, &output)| counts[game.after(position, Round { input, output })]).collect();
+    let left: Vec<Count> = answers
+        .iter()
+        .enumerate()
+        .map(|(input, &output)| counts[game.after(position, Round { input, output })])
+        .collect();
     let least = left.iter().min();
     left.iter().position(|count| Some(count) == least)
 }

@@ -24,6 +24,13 @@ pub fn source(random: &mut Random) -> Source {
     Source::Diagram(bytes)
 }
 
+/// A right drawing of so many positions, with few signals.
+pub fn sized(random: &mut Random, size: usize) -> Source {
+    let (inputs, outputs) = (random.between(0, 2), random.between(0, 1));
+    let plan = filled(random, inputs, outputs, size);
+    Source::Diagram(drawn(random, &plan))
+}
+
 fn plan(random: &mut Random) -> Plan {
     let (inputs, outputs) = (random.pick(&[0, 1, 1, 1, 2, 2, 3, 4]), random.pick(&[0, 1, 1, 1, 2, 2, 3, 4]));
     let rounds = 1 << (inputs + outputs);
@@ -32,6 +39,10 @@ fn plan(random: &mut Random) -> Plan {
         0 => random.between(1, most),
         _ => random.between(1, most.min(9)),
     };
+    filled(random, inputs, outputs, size)
+}
+
+fn filled(random: &mut Random, inputs: usize, outputs: usize, size: usize) -> Plan {
     let (gaps, falling) = (random.pick(&[2, 3, 5, 20, 400]), random.once_in(3));
     let chains = (1..=size).map(|position| chain(random, position, size, [inputs, outputs, gaps], falling)).collect();
     Plan { inputs, outputs, start: random.between(1, size), chains }
@@ -39,7 +50,8 @@ fn plan(random: &mut Random) -> Plan {
 
 /// About 4,000 records.
 fn crowded(random: &mut Random) -> Plan {
-    let mut chains: Vec<Vec<[usize; 3]>> = (1..=16).map(|position| chain(random, position, 16, [4, 4, 1 << 40], false)).collect();
+    let mut chains: Vec<Vec<[usize; 3]>> =
+        (1..=16).map(|position| chain(random, position, 16, [4, 4, 1 << 40], false)).collect();
     for _ in random.between(3997, 4003)..4096 {
         chains[random.below(16)].pop();
     }

@@ -9,14 +9,15 @@ fn words(text: &str) -> Words {
 }
 
 pub fn source(random: &mut Random) -> Source {
-    match random.weighted(&[2, 2, 5, 3, 3, 6, 4, 2]) {
+    match random.weighted(&[2, 2, 5, 3, 3, 4, 4, 5, 2]) {
         0 => long(random),
         1 => crowded(random),
         2 => deep(random),
         3 => many_parts(random),
         4 => many_duties(random),
         5 => wide(random),
-        6 => many_positions(random),
+        6 => wide_by_count(random),
+        7 => many_positions(random),
         _ => start_lost(random),
     }
 }
@@ -132,32 +133,57 @@ fn wide(random: &mut Random) -> Source {
     };
     let units: Vec<String> = (0..random.between(4, 7)).map(|k| pair(random, k)).collect();
     let body = units.join(" & ");
-    let name = random.pick(&all);
-    let said = match random.below(8) {
-        0 | 1 => body,
+    let body = inside(random, &all, &body);
+    with_rule(random, &names, &words(&body))
+}
+
+/// Lists of 30 to 34 sets: units of so many alternatives, all of them different, and some more alternatives beside.
+fn wide_by_count(random: &mut Random) -> Source {
+    let (inputs, outputs) = (random.between(1, 3), random.between(2, 4));
+    let names = Names::of(random, inputs, outputs);
+    let all = names.all();
+    let mut atoms = (0..).map(|k| format!("{}{}", "X ".repeat(k / all.len()), all[k % all.len()]));
+    let mut choice = |size: usize| atoms.by_ref().take(size).collect::<Vec<String>>().join(" | ");
+    let factors: &[usize] =
+        random.pick(&[&[2, 2, 2, 2, 2], &[4, 8], &[5, 6], &[3, 10], &[2, 16], &[2, 15], &[2, 4, 4]]);
+    let units: Vec<String> = factors.iter().map(|size| format!("( {} )", choice(*size))).collect();
+    let beside = random.below(4);
+    let beside = if beside == 0 { String::new() } else { format!("| {}", choice(beside)) };
+    let body = inside(random, &all, &format!("( {} ) {beside}", units.join(" & ")));
+    with_rule(random, &names, &words(&body))
+}
+
+/// Puts what may be too wide where it is needed at once, later, or never.
+fn inside(random: &mut Random, all: &[&str], body: &str) -> String {
+    let name = random.pick(all);
+    match random.below(8) {
+        0 | 1 => body.into(),
         2 => format!("X ( {body} )"),
         3 => format!("true | X ( {body} )"),
         4 => format!("{} & ( {body} )", random.pick(&["false", "true", "X false"])),
         5 => format!("G ( ! {name} | X ( {body} ) )"),
         6 => format!("{name} R ( X X ( {body} ) )"),
         _ => format!("( {name} R ( {body} ) ) | X {name}"),
-    };
-    with_rule(random, &names, &words(&said))
+    }
 }
 
 /// Up to 256 positions and more: what was owed in the last rounds is remembered.
 fn many_positions(random: &mut Random) -> Source {
-    let names = Names::of(random, 1, 1);
+    let names = Names::of(random, 1, 2);
     let (input, output) = (names.inputs[0], names.outputs[0]);
-    let one = |random: &mut Random, most: usize| {
-        let delay = "X ".repeat(random.between(1, most));
+    let delay = |rounds: usize| "X ".repeat(rounds);
+    let mut one = |most: usize| {
         let not = random.pick(&["!", ""]);
-        format!("G ( {not} {input} | {delay} {output} )")
+        format!("G ( {not} {input} | {} {output} )", delay(random.between(1, most)))
     };
-    let said = match random.below(3) {
-        0 => one(random, 8),
-        1 => format!("{} & {}", one(random, 5), one(random, 4)),
-        _ => format!("{} R {}", one(random, 4), one(random, 5)),
+    let (single, left, right, held) = (one(8), one(5), one(4), one(7));
+    let said = match random.below(5) {
+        0 => single,
+        1 => format!("{left} & {right}"),
+        2 => format!("{right} R {left}"),
+        3 => format!("{} {} & {held}", delay(random.between(0, 7)), names.outputs[1]),
+        // Exactly 255.
+        _ => format!("{} {} & G ( ! {input} | {} {output} )", delay(6), names.outputs[1], delay(7)),
     };
     with_rule(random, &names, &words(&said))
 }

@@ -13,10 +13,11 @@ use crate::source::Source;
 
 /// The sources of one case.
 pub fn sources(random: &mut Random) -> Vec<Source> {
-    match random.weighted(&[5, 3, 2]) {
+    match random.weighted(&[50, 30, 19, 1]) {
         0 => vec![texts::source(random)],
         1 => vec![diagrams::source(random)],
-        _ => vec![either(random), either(random)],
+        2 => vec![either(random), either(random)],
+        _ => large_pair(random),
     }
 }
 
@@ -27,4 +28,11 @@ fn either(random: &mut Random) -> Source {
         1 => texts::source(random),
         _ => diagrams::source(random),
     }
+}
+
+/// Two drawings that have 255 positions together, or 256.
+fn large_pair(random: &mut Random) -> Vec<Source> {
+    let (one, two) =
+        random.pick(&[(15, 17), (17, 15), (5, 51), (51, 5), (85, 3), (3, 85), (1, 255), (255, 1), (16, 16), (2, 128)]);
+    vec![diagrams::sized(random, one), diagrams::sized(random, two)]
 }

@@ -4,12 +4,12 @@ use super::texts::{rule, set, Names, Words};
 use crate::random::Random;
 use crate::source::Source;
 
-const MARKS: [&str; 19] =
-    ["X", "G", "R", "U", "F", "&", "|", "!", "(", ")", "in", "out", "true", "false", "luck", "abcdefghi", "^", "9", "\t"];
+const STRAY: &str = "X G R U F & | ! ( ) in out true false luck abcdefghi ^ 9 \t";
 
 fn stray(random: &mut Random, names: &Names) -> Vec<u8> {
     let name = names.pick(random);
-    let word = if random.once_in(4) { name } else { random.pick(&MARKS) };
+    let all: Vec<&str> = STRAY.split(' ').collect();
+    let word = if random.once_in(4) { name } else { random.pick(&all) };
     word.as_bytes().to_vec()
 }
 

@@ -5,7 +5,8 @@ use crate::random::Random;
 use crate::source::Source;
 
 const NAMES: [&str; 16] = [
-    "door", "lock", "load", "clamp", "a", "b", "c9", "in1", "outa", "truex", "falsey", "abcdefgh", "x", "g", "r2d2", "f",
+    "door", "lock", "load", "clamp", "a", "b", "c9", "in1", "outa", "truex", "falsey", "abcdefgh", "x", "g", "r2d2",
+    "f",
 ];
 
 /// The words of a text before they are set.
