@@ -32,6 +32,9 @@ impl From<String> for Difference {
 
 type Checked = Result<(), Difference>;
 
+/// What stands where a book is to be written.
+const BEFORE: &[u8] = b"what stood here before";
+
 pub struct Case<'p> {
     product: &'p Product,
     random: Random,
@@ -79,6 +82,9 @@ impl Case<'_> {
         let (line, said) = self.say(command, more, b"")?;
         let err = String::from_utf8_lossy(&said.err).into_owned();
         let (first, rest) = err.split_once('\n').unwrap_or((&err, ""));
+        if command == "solve" && more.len() == 2 && std::fs::read(&more[1])? != BEFORE {
+            return Err(Difference(format!("{line}\nis refused and writes a book")));
+        }
         let words = first.strip_prefix(&refusal.head()).and_then(|words| words.strip_suffix(end));
         let is_told = words.is_some_and(|words| !words.is_empty());
         if said.status == 1 && said.out.is_empty() && is_told && rest == below {
@@ -134,17 +140,19 @@ impl Case<'_> {
         let command = any_command(&mut self.random);
         let wrong: Vec<(usize, Refused)> =
             read.iter().enumerate().filter_map(|(number, read)| Some((number, *read.as_ref().err()?))).collect();
+        let book = self.product.lay_book(BEFORE)?;
+        let more = if command == "solve" { &book[..] } else { &[] };
         let told: Vec<Checked> =
-            wrong.iter().map(|(number, refused)| self.refuses_source(command, &[], *number, *refused)).collect();
+            wrong.iter().map(|(number, refused)| self.refuses_source(command, more, *number, *refused)).collect();
         told.into_iter().reduce(Result::or).expect("a source is refused")
     }
 
     /// A pair that is too large: whatever the book, 17 comes first.
     fn size_zero(&mut self) -> Checked {
         self.report.count("games of size 0");
-        let book = self.product.lay_book(&[1, 0, 0, 0, 0, 0, 0, 0])?;
+        let book = self.product.lay_book(BEFORE)?;
         let refusal = Refusal::new(17, 0);
-        self.refuses("solve", &[], refusal, "", "")?;
+        self.refuses("solve", &book, refusal, "", "")?;
         self.refuses("show", &[], refusal, "", "")?;
         self.refuses("check", &book, refusal, "", "")?;
         self.refuses("run", &book, refusal, "", "")
@@ -164,7 +172,7 @@ impl Case<'_> {
 
     fn solving(&mut self, solved: &Solved) -> Checked {
         self.report.count("books written");
-        let book = self.product.lay_book(b"what stood here before")?;
+        let book = self.product.lay_book(BEFORE)?;
         self.serves("solve", &book, b"", &print::solved(solved.game, &solved.values))?;
         let written = std::fs::read(&book[1])?;
         if written == solved.book {
