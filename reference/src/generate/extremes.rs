@@ -9,7 +9,7 @@ fn words(text: &str) -> Words {
 }
 
 pub fn source(random: &mut Random) -> Source {
-    match random.weighted(&[2, 2, 5, 3, 3, 4, 4, 5, 2]) {
+    match random.weighted(&[2, 2, 5, 3, 3, 4, 4, 2, 5, 2]) {
         0 => long(random),
         1 => crowded(random),
         2 => deep(random),
@@ -17,7 +17,8 @@ pub fn source(random: &mut Random) -> Source {
         4 => many_duties(random),
         5 => wide(random),
         6 => wide_by_count(random),
-        7 => many_positions(random),
+        7 => wide_on_the_way(random),
+        8 => many_positions(random),
         _ => start_lost(random),
     }
 }
@@ -151,6 +152,22 @@ fn wide_by_count(random: &mut Random) -> Source {
     let beside = if beside == 0 { String::new() } else { format!("| {}", choice(beside)) };
     let body = inside(random, &all, &format!("( {} ) {beside}", units.join(" & ")));
     with_rule(random, &names, &words(&body))
+}
+
+/// Duties of one set that are too wide together after a round, or are not since others cannot be met: the order decides.
+fn wide_on_the_way(random: &mut Random) -> Source {
+    let names = Names::of(random, 2, 2);
+    let all = names.all();
+    let mut atoms = (0..).map(|k| format!("{}{}", "X ".repeat(k / all.len()), all[k % all.len()]));
+    let mut choice = |size: usize| format!("X ( {} )", atoms.by_ref().take(size).collect::<Vec<String>>().join(" | "));
+    let (name, other) = (random.pick(&all), random.pick(&all));
+    let mut left = vec![choice(random.between(4, 7)), choice(random.between(5, 8)), name.into(), format!("! {other}")];
+    let mut said = left.swap_remove(random.below(4));
+    while !left.is_empty() {
+        let next = left.swap_remove(random.below(left.len()));
+        said = if random.once_in(8) { format!("( {said} ) | {next}") } else { format!("{said} & {next}") };
+    }
+    with_rule(random, &names, &words(&said))
 }
 
 /// Puts what may be too wide where it is needed at once, later, or never.
