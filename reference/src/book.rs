@@ -37,3 +37,23 @@ pub fn accept(game: &Game, own: &[u8], bytes: &[u8]) -> Result<(), Refusal> {
     }
     Ok(())
 }
+
+#[cfg(test)]
+mod tests {
+    use super::*;
+    use crate::winning::values;
+
+    #[test]
+    fn the_example() {
+        let game = Game::new(1, 1, 2, 1, vec![1, 0, 0, 2, 1, 0, 0, 0]);
+        let due = [
+            &[1, 1, 1, 2, 1, 0, 0, 0, 2, 0, 0, 0, 0, 1, 1, 0, 0, 1][..],
+            &[0; 14],
+            &[2, 0, 0, 0, 0, 0, 1, 0],
+            &[0; 16],
+        ];
+        let own = book(&game, &values(&game));
+        assert_eq!(own, due.concat());
+        assert_eq!(accept(&game, &own, &own[..55]), Err(Refusal::new(18, 0)));
+    }
+}

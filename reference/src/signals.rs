@@ -74,3 +74,31 @@ fn fault(before: &[Word], word: &Word) -> Option<u8> {
 fn names(words: &[Word]) -> Vec<Vec<u8>> {
     words.iter().map(|w| w.bytes.to_vec()).collect()
 }
+
+#[cfg(test)]
+mod tests {
+    use super::*;
+
+    #[test]
+    fn refusals_of_signals_texts() {
+        let cases = [
+            ("in\tout", 2, 2),
+            ("", 3, 0),
+            ("in", 3, 2),
+            ("in X out", 3, 3),
+            ("in a true out", 3, 5),
+            ("in out out", 3, 7),
+            ("in abcdefghi out", 4, 3),
+            ("in door door out", 4, 8),
+            ("in a b c d a out", 4, 11),
+            ("in a b c d e out", 6, 11),
+            ("in out a b c d e", 6, 15),
+        ];
+        for (text, number, place) in cases {
+            assert_eq!(read(text.as_bytes()), Err(Refusal::new(number, place)), "{text}");
+        }
+        for text in ["in out", "in door out lock ajar", "in abcdefgh out", "in a b c d out e f g h"] {
+            assert!(read(text.as_bytes()).is_ok(), "{text}");
+        }
+    }
+}
