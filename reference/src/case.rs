@@ -137,11 +137,11 @@ impl Case<'_> {
 
     /// Where both sources of a pair are refused, the documents leave open which refusal is told.
     fn refused(&mut self, read: &[Result<Read, Refused>]) -> Checked {
-        let command = any_command(&mut self.random);
+        let command = self.random.pick(&["solve", "solve", "show", "check", "run"]);
         let wrong: Vec<(usize, Refused)> =
             read.iter().enumerate().filter_map(|(number, read)| Some((number, *read.as_ref().err()?))).collect();
         let book = self.product.lay_book(BEFORE)?;
-        let more = if command == "solve" { &book[..] } else { &[] };
+        let more = if command == "show" { &[] } else { &book[..] };
         let told: Vec<Checked> =
             wrong.iter().map(|(number, refused)| self.refuses_source(command, more, *number, *refused)).collect();
         told.into_iter().reduce(Result::or).expect("a source is refused")
@@ -259,14 +259,6 @@ fn is_told(answer: &str, line: &Line) -> bool {
         Some(Told::Refused(refusal)) => answer.starts_with(&refusal.head()) && answer.len() > refusal.head().len(),
         Some(told) => answer == told.to_string(),
         None => answer.contains("call") && answer.contains("open"),
-    }
-}
-
-fn any_command(random: &mut Random) -> &'static str {
-    if random.once_in(3) {
-        "show"
-    } else {
-        "solve"
     }
 }
 
