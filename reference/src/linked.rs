@@ -12,6 +12,7 @@ use crate::report::Report;
 use crate::source::{read, Read, Refused, Source};
 use crate::tally::{Call, Tally};
 use crate::winning::{values, Values};
+use std::fmt::{Debug, Display};
 
 type Checked = Result<(), Difference>;
 
@@ -36,7 +37,7 @@ struct Solved {
     book: Vec<u8>,
 }
 
-fn same<T: PartialEq + std::fmt::Debug>(what: &str, due: T, said: T) -> Checked {
+fn same<T: PartialEq + Debug>(what: impl Display, due: T, said: T) -> Checked {
     if due == said {
         return Ok(());
     }
@@ -122,7 +123,7 @@ impl Linked<'_> {
                 Outcome::refused(refusal)
             }
         };
-        same(&format!("accepting the book {bytes:02x?}"), due, library::accept(self.source, bytes))
+        same(format_args!("accepting the book {bytes:02x?}"), due, library::accept(self.source, bytes))
     }
 
     /// A row of calls; gives what it held and what was said to it, if it was served.
@@ -145,9 +146,9 @@ impl Linked<'_> {
         }
         let mut answers = vec![NOTHING; row.len() + self.random.below(3)];
         let outcome = library::replay(self.source, &solved.book, &row, &mut answers);
-        same(&format!("replaying {calls:?}"), Outcome::served(row.len()), outcome)?;
+        same(format_args!("replaying {calls:?}"), Outcome::served(row.len()), outcome)?;
         let due = due.into_iter().chain(std::iter::repeat_n(NOTHING, answers.len() - row.len())).collect();
-        same(&format!("the answers to {calls:?}"), due, answers.clone())?;
+        same(format_args!("the answers to {calls:?}"), due, answers.clone())?;
         Ok(calls.into_iter().zip(answers).collect())
     }
 
@@ -184,7 +185,7 @@ impl Linked<'_> {
                 (Call::Close, 3) => {
                     closed.push(open);
                     self.report.count("verdicts: product and negation");
-                    same(&format!("lost after {closed:?}"), read.is_lost_after(&closed), answer.position == 0)?;
+                    same(format_args!("lost after {closed:?}"), read.is_lost_after(&closed), answer.position == 0)?;
                 }
                 _ => {}
             }
