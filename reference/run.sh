@@ -8,7 +8,7 @@
 # names. JOBS names how many run at a time. The files of the cases stand in memory where that can be.
 set -eu
 cd "$(dirname "$0")/.."
-cases=${1:-20000}
+cases=${1:-10000}
 seed=${2:-1}
 program=${PLAYBOOK:-crates/playbook/out/playbook}
 [ -d /dev/shm ] && export TMPDIR=/dev/shm
