@@ -9,6 +9,7 @@ ghost use Rattle.compile.specs.Charting.{Stored, Enters, Goes, Charting, Leaves}
 ghost use Rattle.compile.specs.Explored.{Explores};
 ghost use Rattle.compile.specs.Compiling.{Builds};
 
+use crate::joins::Joins;
 use crate::list::DutyList;
 use crate::mask::Mask;
 use crate::outline::Outline;
@@ -50,6 +51,7 @@ impl Explorer<'_> {
     // then found.
     fn explore_anew(
         &mut self,
+        joins: &mut Joins,
         found: &mut Register<'_, Position>,
         p: usize,
         t: usize,
@@ -64,7 +66,7 @@ impl Explorer<'_> {
         let turn = Turn::at(t, self.signals.outputs);
         let next = self
             .progress
-            .list_after(turn, &list)
+            .list_after(joins, turn, &list)
             .ok_or(Refusal::TooWide(p + 1))?;
         let n = enter_list(found, next).ok_or(Refusal::TooManyPositions)?;
         found.store[p].moves[t] = n;
@@ -75,6 +77,7 @@ impl Explorer<'_> {
     // these is its move too.
     fn explore_round(
         &mut self,
+        joins: &mut Joins,
         found: &mut Register<'_, Position>,
         mask: Mask,
         p: usize,
@@ -90,7 +93,7 @@ impl Explorer<'_> {
         let outputs = self.signals.outputs;
         let alike = mask.shown(Turn::at(t, outputs)).number(outputs);
         if t <= alike {
-            return self.explore_anew(found, p, t);
+            return self.explore_anew(joins, found, p, t);
         }
         found.store[p].moves[t] = found.store[p].moves[alike];
         Ok(())
@@ -99,6 +102,7 @@ impl Explorer<'_> {
     // Every round from the position at p.
     fn explore_position(
         &mut self,
+        joins: &mut Joins,
         found: &mut Register<'_, Position>,
         p: usize,
     ) -> Result<(), Refusal>
@@ -109,13 +113,17 @@ impl Explorer<'_> {
     {
         let mask = self.progress.outline.list_mask(&found.store[p].list);
         for t in 0..count_of(self.signals.inputs) * count_of(self.signals.outputs) {
-            self.explore_round(found, mask, p, t)?;
+            self.explore_round(joins, found, mask, p, t)?;
         }
         Ok(())
     }
 
     // Every position, from the first on: how many there are.
-    fn explore_all(&mut self, found: &mut Register<'_, Position>) -> Result<u8, Refusal>
+    fn explore_all(
+        &mut self,
+        joins: &mut Joins,
+        found: &mut Register<'_, Position>,
+    ) -> Result<u8, Refusal>
         requires first { Charting (2 ^ self.old.signals.inputs * 2 ^ self.old.signals.outputs) self.old.signals.outputs (rule self.old.progress) 1 0 0 found.old.store.now }
         requires used { found.old.used ≡ 1 }
         ensures explores { Explores self.old.signals.inputs self.old.signals.outputs (rule self.old.progress) (slice_index_or found.old.store.now 0 unused_position).list found.new.store.now result }
@@ -124,7 +132,7 @@ impl Explorer<'_> {
         let mut p = 0;
         // Kept: the work grows while it is done, so a `for` has no end to count to; this is the plainest worklist.
         while p < found.used {
-            self.explore_position(found, p)?;
+            self.explore_position(joins, found, p)?;
             p += 1;
         }
         Ok(found.used as u8)
@@ -144,7 +152,10 @@ pub(crate) fn explore(
     ensures { Builds signals.inputs signals.outputs outline.entry.parts.now root positions.new result }
 {
     let mut progress = Progress::of(outline);
-    let first = progress.list_of(root).ok_or(Refusal::TooWide(0))?;
+    let mut joins = Joins::new();
+    let first = progress
+        .list_of(&mut joins, root)
+        .ok_or(Refusal::TooWide(0))?;
     if first.is_empty() {
         return Err(Refusal::StartLost);
     }
@@ -154,5 +165,5 @@ pub(crate) fn explore(
         used: 1,
     };
     let mut explorer = Explorer { progress, signals };
-    explorer.explore_all(&mut found)
+    explorer.explore_all(&mut joins, &mut found)
 }

@@ -8,7 +8,7 @@ use crate::join::both;
 use crate::list::DutyList;
 
 // How many are kept.
-const SLOTS: usize = 512;
+const SLOTS: usize = 256;
 
 // Two lists, and their "and".
 #[derive(Clone, Copy)]
@@ -41,16 +41,18 @@ impl Made {
 
 // The number of one of the slots, which two lists share with few others. Any one is right.
 fn slot_of(a: &DutyList, b: &DutyList) -> usize
-    ensures { result < 512 }
+    ensures { result < 256 }
 {
     let first = mixed(0, a.as_slice());
-    mixed(first, b.as_slice()) as usize % SLOTS
+    (mixed(first, b.as_slice()) >> 24) as usize
 }
 
-// A number that few lists have in common.
+// A number that few lists have in common, in its upper digits. Any one is right.
 fn mixed(start: u32, sets: &[u32]) -> u32 {
-    sets.iter()
-        .fold(start, |sum, set| sum.wrapping_mul(31) ^ *set)
+    sets.iter().fold(
+        start,
+        |sum, set| (sum.rotate_left(5) ^ *set).wrapping_mul(0x9E37_79B1),
+    )
 }
 
 // The long joins that were made last.

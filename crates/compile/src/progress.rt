@@ -60,7 +60,6 @@ pub(crate) struct Progress<'p> {
     lists: Memo,
     pub(crate) turn: Turn,
     afters: Memo,
-    joins: Joins,
     ghost lists_right: { Remembers (list_of outline.parts.now) lists.known lists.lists } by { remembers_prop (list_of outline.parts.now) lists.known lists.lists },
     ghost afters_right: { Remembers (part_after outline.parts.now (played turn)) afters.known afters.lists } by { remembers_prop (part_after outline.parts.now (played turn)) afters.known afters.lists },
 }
@@ -81,7 +80,6 @@ impl<'p> Progress<'p> {
                 output: 0,
             },
             afters: Memo::new(),
-            joins: Joins::new(),
         }
     }
 
@@ -89,7 +87,7 @@ impl<'p> Progress<'p> {
     // Kept: four calls ask that k is a part; a type for numbers of parts would be taken apart at each use.
     // Kept: `part_after` is its twin, but one function of both would borrow a memory and all of `self` at once.
     #[cycle(expanded_list_of)]
-    pub(crate) fn list_of(&mut self, k: usize) -> Option<DutyList>
+    pub(crate) fn list_of(&mut self, joins: &mut Joins, k: usize) -> Option<DutyList>
         requires { k < length (rule self.old) }
         ensures value { Gives result (list_of (rule self.old) k) }
         ensures stays { Stays self.old self.new }
@@ -97,7 +95,7 @@ impl<'p> Progress<'p> {
         if let Some(known) = self.lists.get(k) {
             return known;
         }
-        let list = self.expanded(k);
+        let list = self.expanded(joins, k);
         self.lists.note(k, &list);
         list
     }
@@ -105,7 +103,7 @@ impl<'p> Progress<'p> {
     // The list of part `k`, from those of its sides.
     // Kept: the arms of both and either differ in the join alone, and a call through a closure in a recursion gets no proof.
     #[cycle(expanded_list_of)]
-    fn expanded(&mut self, k: usize) -> Option<DutyList>
+    fn expanded(&mut self, joins: &mut Joins, k: usize) -> Option<DutyList>
         requires { k < length (rule self.old) }
         ensures value { Gives result (list_of (rule self.old) k) }
         ensures stays { Stays self.old self.new }
@@ -117,13 +115,13 @@ impl<'p> Progress<'p> {
                 Some(DutyList::own(self.outline.numbers[k]))
             }
             Part::Both(a, b) => {
-                let x = self.list_of(a as usize)?;
-                let y = self.list_of(b as usize)?;
-                self.joins.both(&x, &y)
+                let x = self.list_of(joins, a as usize)?;
+                let y = self.list_of(joins, b as usize)?;
+                joins.both(&x, &y)
             }
             Part::Either(a, b) => {
-                let x = self.list_of(a as usize)?;
-                let y = self.list_of(b as usize)?;
+                let x = self.list_of(joins, a as usize)?;
+                let y = self.list_of(joins, b as usize)?;
                 either(&x, &y)
             }
         }
@@ -131,7 +129,7 @@ impl<'p> Progress<'p> {
 
     // Part `k` after the round, made once.
     #[cycle(part_after_progressed)]
-    fn part_after(&mut self, k: usize) -> Option<DutyList>
+    fn part_after(&mut self, joins: &mut Joins, k: usize) -> Option<DutyList>
         requires { k < length (rule self.old) }
         ensures value { Gives result (part_after (rule self.old) (round self.old) k) }
         ensures stays { Stays self.old self.new }
@@ -139,14 +137,14 @@ impl<'p> Progress<'p> {
         if let Some(known) = self.afters.get(k) {
             return known;
         }
-        let list = self.progressed(k);
+        let list = self.progressed(joins, k);
         self.afters.note(k, &list);
         list
     }
 
     // Part `k` after the round, from its sides.
     #[cycle(part_after_progressed)]
-    fn progressed(&mut self, k: usize) -> Option<DutyList>
+    fn progressed(&mut self, joins: &mut Joins, k: usize) -> Option<DutyList>
         requires { k < length (rule self.old) }
         ensures value { Gives result (part_after (rule self.old) (round self.old) k) }
         ensures stays { Stays self.old self.new }
@@ -155,42 +153,42 @@ impl<'p> Progress<'p> {
             Part::True => Some(DutyList::of_true()),
             Part::False => Some(DutyList::of_false()),
             Part::Literal(signal, want) => { Some(constant(is_agreed(self.turn, signal, want))) }
-            Part::Next(f) => self.list_of(f as usize),
+            Part::Next(f) => self.list_of(joins, f as usize),
             Part::Release(a, b) => {
-                let y = self.part_after(b as usize)?;
-                let x = self.part_after(a as usize)?;
+                let y = self.part_after(joins, b as usize)?;
+                let x = self.part_after(joins, a as usize)?;
                 let duty = self.outline.numbers[k];
-                released(&mut self.joins, &y, &x, duty)
+                released(joins, &y, &x, duty)
             }
             Part::Both(a, b) => {
-                let x = self.part_after(a as usize)?;
-                let y = self.part_after(b as usize)?;
-                self.joins.both(&x, &y)
+                let x = self.part_after(joins, a as usize)?;
+                let y = self.part_after(joins, b as usize)?;
+                joins.both(&x, &y)
             }
             Part::Either(a, b) => {
-                let x = self.part_after(a as usize)?;
-                let y = self.part_after(b as usize)?;
+                let x = self.part_after(joins, a as usize)?;
+                let y = self.part_after(joins, b as usize)?;
                 either(&x, &y)
             }
         }
     }
 
     // Duty `d` after the round; where there is none, `true`.
-    fn duty_after(&mut self, d: u32) -> Option<DutyList>
+    fn duty_after(&mut self, joins: &mut Joins, d: u32) -> Option<DutyList>
         requires { d < 32 }
         ensures value { Gives result (part_after (rule self.old) (round self.old) (duty_part (rule self.old) d)) }
         ensures stays { Stays self.old self.new }
     {
         let k = self.outline.owners[d as usize] as usize;
         if k < self.outline.parts.len() {
-            self.part_after(k)
+            self.part_after(joins, k)
         } else {
             Some(DutyList::of_true())
         }
     }
 
     // All duties of a set after the round, from the lowest up.
-    fn set_after(&mut self, set: u32) -> Option<DutyList>
+    fn set_after(&mut self, joins: &mut Joins, set: u32) -> Option<DutyList>
         ensures value { Gives result (set_after (rule self.old) (round self.old) set) }
         ensures stays { Stays self.old self.new }
     {
@@ -198,8 +196,8 @@ impl<'p> Progress<'p> {
         let mut all = DutyList::of_true();
         // Kept: a set's next duty is found by its trailing zeros, which is the order that the definitions have.
         while rest != 0 {
-            let one = self.duty_after(rest.trailing_zeros())?;
-            all = self.joins.both(&all, &one)?;
+            let one = self.duty_after(joins, rest.trailing_zeros())?;
+            all = joins.both(&all, &one)?;
             rest &= rest - 1;
         }
         Some(all)
@@ -218,24 +216,29 @@ impl<'p> Progress<'p> {
     }
 
     // A list after the round: the sets after it, in order.
-    fn list_joined(&mut self, list: &DutyList) -> Option<DutyList>
+    fn list_joined(&mut self, joins: &mut Joins, list: &DutyList) -> Option<DutyList>
         ensures value { Gives result (list_after (rule self.old) (round self.old) (sets list.now)) }
         ensures stays { rule self.new ≡ rule self.old }
     {
         let mut any = DutyList::of_false();
         for set in list.as_slice() {
-            let one = self.set_after(*set)?;
+            let one = self.set_after(joins, *set)?;
             any = either(&any, &one)?;
         }
         Some(any)
     }
 
     // A list after a round.
-    pub(crate) fn list_after(&mut self, turn: Turn, list: &DutyList) -> Option<DutyList>
+    pub(crate) fn list_after(
+        &mut self,
+        joins: &mut Joins,
+        turn: Turn,
+        list: &DutyList,
+    ) -> Option<DutyList>
         ensures value { Gives result (list_after (rule self.old) (played turn) (sets list.now)) }
         ensures stays { rule self.new ≡ rule self.old }
     {
         self.turn_to(turn);
-        self.list_joined(list)
+        self.list_joined(joins, list)
     }
 }
