@@ -12,6 +12,10 @@ use worked::solved::solve_example;
 // How long the book of eight positions is, the longest one of an example.
 const LONGEST: usize = 200;
 
+fn text_of(example: Example) -> &'static str {
+    from_utf8(example.text()).unwrap_or("")
+}
+
 // What an example is called: the text of its rule, or which game it is.
 #[derive(Clone, Copy)]
 struct Title(Example);
@@ -20,12 +24,15 @@ impl fmt::Display for Title {
     fn fmt<W: fmt::Write>(&self, f: &mut fmt::Formatter<W>) -> fmt::Result {
         match self.0 {
             Example::Paired => {
-                let first = Title(Example::Follow);
-                let second = Title(Example::Later);
+                let first = text_of(Example::Follow);
+                let second = text_of(Example::Later);
                 write!(f, "pair of {first} and {second}")
             }
             Example::Drawn => write!(f, "diagram"),
-            rule => write!(f, "{}", from_utf8(rule.text()).unwrap_or("")),
+            rule => {
+                let text = text_of(rule);
+                write!(f, "{text}")
+            }
         }
     }
 }

@@ -5,7 +5,7 @@ use Rattle.calls.proofs.rule.accept_rule.Goals as goal
 pub returns-in-Ok : goal.returns-in-Ok
 returns-in-Ok c =
     let h = c.accept_book.ensures in
-    rw h.1 (over {a = arena_in c.game.result.numbers c.game.result.positions.now} (c.in-Ok.numbers, c.compiled.new.positions, c.in-Ok.ensures, cc (c.game.ensures.0, c.game.ensures.1)) h.2)
+    rw h.1 (over {a = arena_in c.game.result.numbers c.game.result.positions.now} (c.in-Ok.numbers, c.compiled.new.positions, c.in-Ok.ensures, cc (c.game.ensures.fields.0, c.game.ensures.fields.1)) h.2)
 
 pub returns-in-Err : goal.returns-in-Err
 returns-in-Err c = rw c.misread.ensures (misread (c.compiled.new.positions, c.in-Err.ensures) tt)
