@@ -13,7 +13,7 @@
  * length is more than SSIZE_MAX bytes. A buffer that is written (book of a solve call, answers of a replay) overlaps no
  * other buffer of the call; what is `const` is only read.
  *
- * Stack. A call on the texts of a rule was measured to take at most 181,000 bytes of stack, and a call on a diagram 19,000.
+ * Stack. A call on the texts of a rule was measured to take at most 600,000 bytes of stack, and a call on a diagram 150,000.
  * This is measured on x86-64 and not proved; CUZZAMBRA_STACK leaves room.
  */
 #ifndef CUZZAMBRA_H
@@ -26,7 +26,7 @@
 extern "C" {
 #endif
 
-#define CUZZAMBRA_STACK 262144
+#define CUZZAMBRA_STACK 1048576
 
 /* The longest book: 8 bytes and 24 for each of 255 positions. A buffer of this length is never too short. */
 #define CUZZAMBRA_LONGEST_BOOK 6128
