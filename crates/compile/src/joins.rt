@@ -1,6 +1,6 @@
 // Long joins that were made before.
-ghost use Rattle.std.specs.Prelude.{◌≡◌, ◌<◌, Decides};
-ghost use Rattle.rules.specs.Sets.{sets, join_and};
+ghost use Rattle.std.specs.Prelude.{◌≡◌, ◌<◌, Decides, MatchOption};
+ghost use Rattle.rules.specs.Sets.{too_wide, sets, join_and};
 ghost use Rattle.compile.specs.Listed.{Gives};
 ghost use Rattle.compile.specs.Known.{gives_prop};
 
@@ -82,5 +82,19 @@ impl Joins {
             self.made[slot] = Made::of(*a, *b);
         }
         self.made[slot].list
+    }
+
+    // Joins another list to `all`, in place where each has one set.
+    pub(crate) fn add(&mut self, all: &mut DutyList, one: &DutyList) -> Option<()>
+        ensures { MatchOption result (join_and (sets all.old) (sets one.now) ≡ too_wide) (λ _. join_and (sets all.old) (sets one.now) ≡ sets all.new) }
+    {
+        let xs = all.as_slice();
+        let ys = one.as_slice();
+        if xs.len() * ys.len() == 1 {
+            *all = DutyList::alone(xs[0] | ys[0]);
+            return Some(());
+        }
+        *all = self.both(all, one)?;
+        Some(())
     }
 }

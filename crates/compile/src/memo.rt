@@ -1,6 +1,5 @@
 // Lists that were made before, by the numbers of their parts.
-ghost use Rattle.std.specs.Prelude.{◌≡◌, ◌<◌, true, false, replicate, slice_set};
-ghost use Rattle.compile.specs.Known.{entry};
+ghost use Rattle.std.specs.Prelude.{◌≡◌, ◌<◌, true, false, replicate, slice_index_or, slice_set};
 
 use crate::list::DutyList;
 
@@ -31,12 +30,20 @@ impl Memo {
         self.known[k] = false;
     }
 
-    // What is known of the list of part `k`.
-    pub(crate) fn get(&self, k: usize) -> Option<Option<DutyList>>
+    // Whether the list of part `k` is known.
+    pub(crate) fn is_known(&self, k: usize) -> bool
         requires { k < 64 }
-        ensures { result ≡ entry self.now.known self.now.lists k }
+        ensures { result ≡ slice_index_or self.now.known k false }
     {
-        self.known[k].then_some(self.lists[k])
+        self.known[k]
+    }
+
+    // The list of part `k`, where it is known.
+    pub(crate) fn list(&self, k: usize) -> &Option<DutyList>
+        requires { k < 64 }
+        ensures { result.now ≡ slice_index_or self.now.lists k None }
+    {
+        &self.lists[k]
     }
 
     // Notes the list of part `k`.

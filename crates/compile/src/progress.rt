@@ -1,11 +1,11 @@
 // The list of a part, and lists after a round.
-ghost use Rattle.std.specs.Prelude.{◌≡◌, ◌<◌, length, if◌then◌else◌, ◌==◌};
+ghost use Rattle.std.specs.Prelude.{◌≡◌, ◌<◌, true, false, length, slice_index_or, MatchOption, if◌then◌else◌, ◌==◌};
 ghost use Rattle.rules.specs.Rule.{bit, agrees};
-ghost use Rattle.rules.specs.Sets.{sets, join_or, join_and};
+ghost use Rattle.rules.specs.Sets.{too_wide, sets, join_or, join_and};
 ghost use Rattle.rules.specs.Progress.{of_true, of_false, own as own_list, list_of, part_after, set_after, list_after};
 ghost use Rattle.rules.specs.Parts.{duty_part};
 ghost use Rattle.compile.specs.Listed.{Gives};
-ghost use Rattle.compile.specs.Known.{Remembers, remembers_prop};
+ghost use Rattle.compile.specs.Known.{Remembers, remembers_prop, join_duty};
 ghost use Rattle.compile.specs.Played.{played};
 
 use crate::join::either;
@@ -92,12 +92,11 @@ impl<'p> Progress<'p> {
         ensures value { Gives result (list_of (rule self.old) k) }
         ensures stays { Stays self.old self.new }
     {
-        if let Some(known) = self.lists.get(k) {
-            return known;
+        if !self.lists.is_known(k) {
+            let list = self.expanded(joins, k);
+            self.lists.note(k, &list);
         }
-        let list = self.expanded(joins, k);
-        self.lists.note(k, &list);
-        list
+        *self.lists.list(k)
     }
 
     // The list of part `k`, from those of its sides.
@@ -134,12 +133,21 @@ impl<'p> Progress<'p> {
         ensures value { Gives result (part_after (rule self.old) (round self.old) k) }
         ensures stays { Stays self.old self.new }
     {
-        if let Some(known) = self.afters.get(k) {
-            return known;
+        self.find_after(joins, k);
+        *self.afters.list(k)
+    }
+
+    // Works out part `k` after the round, where that is not known.
+    #[cycle(part_after_progressed)]
+    fn find_after(&mut self, joins: &mut Joins, k: usize)
+        requires { k < length (rule self.old) }
+        ensures known { slice_index_or self.new.afters.known k false ≡ true }
+        ensures stays { Stays self.old self.new }
+    {
+        if !self.afters.is_known(k) {
+            let list = self.progressed(joins, k);
+            self.afters.note(k, &list);
         }
-        let list = self.progressed(joins, k);
-        self.afters.note(k, &list);
-        list
     }
 
     // Part `k` after the round, from its sides.
@@ -173,17 +181,20 @@ impl<'p> Progress<'p> {
         }
     }
 
-    // Duty `d` after the round; where there is none, `true`.
-    fn duty_after(&mut self, joins: &mut Joins, d: u32) -> Option<DutyList>
+    // Joins duty `d` after the round to `all`; where there is none, `true`.
+    fn add_duty(&mut self, joins: &mut Joins, all: &mut DutyList, d: u32) -> Option<()>
         requires { d < 32 }
-        ensures value { Gives result (part_after (rule self.old) (round self.old) (duty_part (rule self.old) d)) }
+        ensures value { MatchOption result (join_duty (rule self.old) (round self.old) (sets all.old) d ≡ too_wide) (λ _. join_duty (rule self.old) (round self.old) (sets all.old) d ≡ sets all.new) }
         ensures stays { Stays self.old self.new }
     {
         let k = self.outline.owners[d as usize] as usize;
-        if k < self.outline.parts.len() {
-            self.part_after(joins, k)
-        } else {
-            Some(DutyList::of_true())
+        if k >= self.outline.parts.len() {
+            return joins.add(all, &DutyList::of_true());
+        }
+        self.find_after(joins, k);
+        match self.afters.list(k) {
+            None => None,
+            Some(one) => joins.add(all, one),
         }
     }
 
@@ -196,8 +207,7 @@ impl<'p> Progress<'p> {
         let mut all = DutyList::of_true();
         // Kept: a set's next duty is found by its trailing zeros, which is the order that the definitions have.
         while rest != 0 {
-            let one = self.duty_after(joins, rest.trailing_zeros())?;
-            all = joins.both(&all, &one)?;
+            self.add_duty(joins, &mut all, rest.trailing_zeros())?;
             rest &= rest - 1;
         }
         Some(all)

@@ -7,7 +7,6 @@ use Rattle.compile.specs.Listed.{told}
 use Rattle.compile.specs.Known.{join_duty}
 use Rattle.compile.specs.Played.{played}
 use Rattle.compile.specs.Progressing.{rule, round}
-use Rattle.compile.proofs.GivenLaws.{and_strict}
 use Rattle.compile.proofs.ExpandLaws.{duty_stays, stays_on}
 use Rattle.compile.proofs.AfterLaws.{set_begins, duty_joined, duty_wide, no_duty_left}
 use Rattle.compile.proofs.progress.Progress.set_after.Goals as goal
@@ -27,14 +26,9 @@ loop-rest-init c =
       same = ap (λ s. fold (join_duty ps r) s (members c.args.set)) c.of_true-all.ensures ∙ sym (set_begins ps r c.args.set);
     }
 
-pub returns-in_err-one-clause-value : goal.returns-in_err-one-clause-value
-returns-in_err-one-clause-value c =
-    let all = c.loop-rest.all in
-    wide (goal.at.returns-in_err-one-clause-value c).In-loop-rest (ap (join_and (sets all)) (duty_stays c.loop-rest.invariant.stays _ ∙ c.in_err-one.ensures.value) ∙ and_strict.right all) ∙ ap told (sym c.from_residual.ensures)
-
-pub returns-in_err-all-clause-value : goal.returns-in_err-all-clause-value
-returns-in_err-all-clause-value c =
-    wide (goal.at.returns-in_err-all-clause-value c).In-loop-rest (ap (join_and (sets c.loop-rest.all)) (duty_stays c.loop-rest.invariant.stays _ ∙ c.in_ok-one.ensures.value) ∙ c.in_err-all.ensures) ∙ ap told (sym c.from_residual-in_err-all.ensures)
+pub returns-in_err-add_duty-clause-value : goal.returns-in_err-add_duty-clause-value
+returns-in_err-add_duty-clause-value c =
+    wide (goal.at.returns-in_err-add_duty-clause-value c).In-loop-rest (ap (join_and (sets c.loop-rest.all)) (duty_stays c.loop-rest.invariant.stays _) ∙ c.in_err-add_duty.ensures.value) ∙ ap told (sym c.from_residual.ensures)
 
 pub loop-rest-preserved : goal.loop-rest-preserved
 loop-rest-preserved c =
@@ -43,10 +37,10 @@ loop-rest-preserved c =
     let inv = c.loop-rest.invariant in
     let n = c.loop-rest.rest in
     let all = c.loop-rest.all in
-    let step = ap (join_and (sets all)) (duty_stays inv.stays (count_trailing_zeros 32 n) ∙ c.in_ok-one.ensures.value) ∙ c.in_ok-all.ensures in
+    let step = ap (join_and (sets all)) (duty_stays inv.stays (count_trailing_zeros 32 n)) ∙ c.in_ok-add_duty.ensures.value in
     record {
       fits = omega (arith, and_le_l n (n - 1), inv.fits);
-      stays = let on = stays_on inv.stays c.duty_after.ensures.stays in record { parts = on.parts; played = on.played };
+      stays = stays_on inv.stays c.add_duty.ensures.stays;
       same = ap (λ s. fold (join_duty ps r) s (members (bit_and n (n - 1)))) (sym step) ∙ sym (duty_joined ps r (sets all) n (omega (arith, c.loop-rest-test.true)) inv.fits) ∙ inv.same;
     }
 
