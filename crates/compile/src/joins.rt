@@ -84,12 +84,15 @@ impl Joins {
         self.made[slot].list
     }
 
-    // Joins another list to `all`, in place where each has one set.
+    // Joins another list to `all`, in place where each has one set or one of them none.
     pub(crate) fn add(&mut self, all: &mut DutyList, one: &DutyList) -> Option<()>
         ensures { MatchOption result (join_and (sets all.old) (sets one.now) ≡ too_wide) (λ _. join_and (sets all.old) (sets one.now) ≡ sets all.new) }
     {
         let xs = all.as_slice();
         let ys = one.as_slice();
+        if xs.is_empty() {
+            return Some(());
+        }
         if xs.len() * ys.len() == 1 {
             *all = DutyList::alone(xs[0] | ys[0]);
             return Some(());
