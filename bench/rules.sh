@@ -1,6 +1,6 @@
 #!/bin/sh
-# Measures compiling and solving of the rules NAME.., else of all in bench/rules but `slowest`, which takes minutes, beside
-# MONA on their negations, and prints a table. Each game is compared with MONA's automaton over every row of rounds.
+# Measures compiling and solving of the rules NAME.., else of all in bench/rules, beside MONA on their negations, and prints
+# a table. Each game is compared with MONA's automaton over every row of rounds.
 # The program is crates/playbook/out/playbook, or the one that PLAYBOOK names. Needs mona, python3 and valgrind.
 set -eu
 cd "$(dirname "$0")/.."
@@ -44,4 +44,4 @@ row() { # NAME
 
 echo "| Rule | positions | compiled, million instructions | and solved | compiled, ms | and solved | MONA, ms | solved / MONA |"
 echo "|---|---|---|---|---|---|---|---|"
-for name in ${*:-follow most next second within later wide broad}; do row "$name"; done
+for name in ${*:-follow most next second within later wide broad slowest hunted}; do row "$name"; done
