@@ -1,0 +1,248 @@
+#!/usr/bin/env python3
+"""Plants wrong programs, one at a time, and records what refuses each.
+
+    planted/run.py [--only WORD] [--jobs N] [--cases N] [LAYER..]   tries the wrong programs of these layers, or of all
+    planted/run.py --table                                          writes the tables of docs/PLANTED.md
+
+A wrong program is an edit of one line or a few, planted/LAYER/NAME.edit, in the form of a must-fail edit (`file:`, and then
+`old:` and `new:` in pairs), with two lines more: `crate:`, and `wrong:`, which says what it does wrong. An edit that the gate
+tries stands in crates/CRATE/must-fail instead and names its layer in a line `layer:`.
+
+For each, the prover checks the crate with the edit. Then the program is built without a proof, and compared with the
+reference over random cases; where no case differs, the tests of `cases` and those of the crate are run. What was found
+goes to planted/LAYER/found.tsv: name, what the prover said, what else found it.
+
+The toolchain builds no program that is not proved, but `rt try` runs one. The comparison needs the program itself, so
+`rt try` is run from a folder that has all of the toolchain but for the linker, which keeps what it links there.
+"""
+
+import argparse
+import os
+import re
+import shutil
+import subprocess
+import sys
+import tempfile
+from concurrent.futures import ThreadPoolExecutor
+from pathlib import Path
+
+TOP = Path(__file__).resolve().parent.parent
+PLANTED = TOP / "planted"
+PAGE = TOP / "docs" / "PLANTED.md"
+LAYERS = {
+    "signals": "Words and signals",
+    "rules": "Reading rules",
+    "lists": "Lists and progression",
+    "exploring": "Exploring",
+    "diagram": "Diagrams",
+    "pair": "Pairs",
+    "solving": "Solving",
+    "accepting": "Accepting",
+    "runs": "Runs",
+    "replay": "Replay",
+}
+# Crates whose own tests see more of them than the tests of `cases` do.
+TESTED = ("words", "reader")
+LINKER = """#!/bin/sh
+{kit}/toolchain/bin/ld.lld "$@" || exit $?
+/bin/cp program {room}/linked && /bin/mv {room}/linked {room}/program
+"""
+
+
+class Edit:
+    def __init__(self, path):
+        self.path = path
+        self.name = path.stem
+        self.text = path.read_text()
+        self.file = self.line("file")
+        kept = path.parent.name == "must-fail"
+        self.kept = kept
+        self.crate = path.parent.parent.name if kept else self.line("crate")
+        self.layer = self.line("layer") if kept else path.parent.name
+        self.wrong = self.line("wrong")
+
+    def line(self, word):
+        found = re.search(rf"^{word}: (.*)$", self.text, re.M)
+        return found[1].strip() if found else ""
+
+    def apply(self, top):
+        file = top / "crates" / self.crate / self.file
+        text = file.read_text()
+        lines = self.text.splitlines()
+        olds = [it.removeprefix("old: ") for it in lines if it.startswith("old: ")]
+        news = [it.removeprefix("new:").removeprefix(" ") for it in lines if it.startswith("new:")]
+        for old, new in zip(olds, news, strict=True):
+            if text.count(old) != 1:
+                raise SystemExit(f"{self.path}: its old text stands {text.count(old)} times in {self.file}: {old}")
+            text = text.replace(old, new)
+        file.write_text(text)
+
+
+def edits_of(layers, only=""):
+    kept = [Edit(it) for it in sorted(TOP.glob("crates/*/must-fail/*.edit"))]
+    planted = [Edit(it) for it in sorted(PLANTED.glob("*/*.edit"))]
+    return [it for it in [*planted, *kept] if it.layer in layers and only in f"{it.layer}/{it.name}"]
+
+
+def copied(room):
+    """A copy of the tree's sources, without what checks have kept."""
+    to = Path(room) / "tree"
+    for name in ("crates", "examples", "reference"):
+        shutil.copytree(TOP / name, to / name, ignore=shutil.ignore_patterns("out", "target"))
+    shutil.copy(TOP / "crates.txt", to)
+    return to
+
+
+def place_of(said, crate):
+    """The function whose fact was refused, and the fact, from the prover's first line."""
+    fact = re.search(r"`([\w-]+)`", said)
+    fact = f" `{fact[1]}`" if fact else ""
+    proof = re.search(r"proofs/([\w/]+)/\w+\.antt", said)
+    if proof:
+        return f"{proof[1].replace('/', '::')}{fact}"
+    source = re.search(r"(src/[\w/]+\.rt):(\d+)", said)
+    if not source:
+        return said[:80]
+    lines = (TOP / "crates" / crate / source[1]).read_text().splitlines()
+    above = (re.search(r"\bfn (\w+)", it) for it in reversed(lines[: int(source[2])]))
+    name = next((it[1] for it in above if it), "?")
+    return f"{source[1].removeprefix('src/').removesuffix('.rt')}::{name}{fact}"
+
+
+def prover(crate, edits, room):
+    """What the prover says of each edit of a crate."""
+    tree = copied(room)
+    folder = tree / "crates" / crate / "must-fail"
+    shutil.rmtree(folder, ignore_errors=True)
+    folder.mkdir()
+    for edit in edits:
+        shutil.copy(edit.path, folder)
+    ran = subprocess.run(["rt", "must-fail", crate], cwd=tree, capture_output=True, text=True, errors="replace")
+    said = {}
+    for line in ran.stdout.splitlines() + ran.stderr.splitlines():
+        found = re.search(r"must-fail \w+/([\w.-]+)\.edit: ([A-Za-z ]+)[,:(](.*)", line)
+        if found:
+            refused = found[2].strip() == "refused"
+            limit = " (a limit)" if "only by a limit" in line else ""
+            names = " (NAMES)" if "only because a proof file" in line else ""
+            said[found[1]] = place_of(found[3], crate) + limit + names if refused else found[2].strip()
+    return {it.name: said.get(it.name, f"NOT TRIED {ran.stdout[-200:]}") for it in edits}
+
+
+def kit_with_linker(room):
+    """A folder that has all of the toolchain, and a linker that keeps what it links there."""
+    kit = Path(subprocess.run(["rt", "doc"], capture_output=True, text=True, check=True).stdout.strip()).parent
+    own = Path(room) / "kit"
+    (own / "toolchain" / "bin").mkdir(parents=True)
+    for it in kit.iterdir():
+        if it.name not in ("toolchain", "bin"):
+            (own / it.name).symlink_to(it)
+    shutil.copytree(kit / "bin", own / "bin")
+    (own / "toolchain" / "lib").symlink_to(kit / "toolchain" / "lib")
+    for it in (kit / "toolchain" / "bin").iterdir():
+        (own / "toolchain" / "bin" / it.name).symlink_to(it)
+    linker = own / "toolchain" / "bin" / "ld.lld"
+    linker.unlink()
+    linker.write_text(LINKER.format(kit=kit, room=own))
+    linker.chmod(0o755)
+    return own
+
+
+def tail(said):
+    lines = [it for it in said.strip().splitlines() if it.strip()]
+    return lines[-1][:200] if lines else "nothing"
+
+
+def compared(tree, kit, cases):
+    """Whether a random case differs, or the program does not build."""
+    ran = subprocess.run([kit / "bin" / "rt", "try", "--", "show", "--diagram", "data/bench.diagram"],
+                         cwd=tree / "crates" / "playbook", capture_output=True, text=True, errors="replace")
+    program = kit / "program"
+    if not program.exists():
+        return f"NOT BUILT {tail(ran.stderr)}"
+    words = [TOP / "reference" / "target" / "release" / "reference", "compare", "--seed", "1", "--cases", str(cases)]
+    ran = subprocess.run([*words, "--jobs", "1", "--program", program], capture_output=True, text=True, errors="replace",
+                         env={**os.environ, "TMPDIR": str(kit)})
+    program.unlink()
+    return "" if ran.returncode == 0 else "comparison"
+
+
+def tested(tree, crate):
+    for name in ("cases", *[it for it in TESTED if it == crate]):
+        ran = subprocess.run(["rt", "try", "--test"], cwd=tree / "crates" / name, capture_output=True, text=True,
+                             errors="replace")
+        if ran.returncode:
+            return f"tests of {name}"
+    return ""
+
+
+def found_otherwise(edit, cases):
+    with tempfile.TemporaryDirectory(prefix="planted-") as room:
+        tree = copied(room)
+        edit.apply(tree)
+        return compared(tree, kit_with_linker(room), cases) or tested(tree, edit.crate) or "nothing"
+
+
+def proved(crate, edits):
+    with tempfile.TemporaryDirectory(prefix="planted-") as room:
+        return prover(crate, edits, room)
+
+
+def record(edits, by_prover, otherwise):
+    for layer in {it.layer for it in edits}:
+        file = PLANTED / layer / "found.tsv"
+        file.parent.mkdir(exist_ok=True)
+        rows = dict(it.split("\t", 1) for it in file.read_text().splitlines()) if file.exists() else {}
+        alive = {it.name for it in edits_of([layer])}
+        for it in edits:
+            if it.layer == layer:
+                rows[it.name] = f"{by_prover[it.name]}\t{otherwise[it.name]}"
+        file.write_text("".join(f"{name}\t{rows[name]}\n" for name in sorted(rows) if name in alive))
+
+
+def tried(arguments):
+    edits = edits_of(arguments.layers or list(LAYERS), arguments.only)
+    subprocess.run(["cargo", "build", "--quiet", "--release", "--offline", "--manifest-path",
+                    TOP / "reference" / "Cargo.toml"], check=True)
+    by_prover, otherwise = {}, {}
+    for crate in sorted({it.crate for it in edits}):
+        by_prover |= proved(crate, [it for it in edits if it.crate == crate])
+    with ThreadPoolExecutor(arguments.jobs) as pool:
+        for edit, found in zip(edits, pool.map(lambda it: found_otherwise(it, arguments.cases), edits)):
+            otherwise[edit.name] = found
+            print(f"{edit.layer}/{edit.name}: {by_prover[edit.name]}; {found}", flush=True)
+    record(edits, by_prover, otherwise)
+
+
+def table(layer):
+    file = PLANTED / layer / "found.tsv"
+    rows = dict(it.split("\t", 1) for it in file.read_text().splitlines()) if file.exists() else {}
+    lines = [f"## {LAYERS[layer]}", "", "| Wrong program | refused by the proof of | found otherwise by |", "|---|---|---|"]
+    for edit in sorted(edits_of([layer]), key=lambda it: it.name):
+        by_prover, otherwise = rows.get(edit.name, "\t").split("\t")
+        kept = " *" if edit.kept else ""
+        lines.append(f"| {edit.name}{kept}: {edit.wrong} | {by_prover} | {otherwise} |".replace("_", r"\_"))
+    return lines
+
+
+def written():
+    head = PAGE.read_text().split("\n## ", 1)[0].rstrip()
+    PAGE.write_text("\n".join([head, "", *[line for it in LAYERS for line in [*table(it), ""]]]).rstrip() + "\n")
+
+
+def main():
+    take = argparse.ArgumentParser(description=__doc__, formatter_class=argparse.RawDescriptionHelpFormatter)
+    take.add_argument("layers", nargs="*", metavar="LAYER")
+    take.add_argument("--only", default="", metavar="WORD")
+    take.add_argument("--jobs", type=int, default=1)
+    take.add_argument("--cases", type=int, default=1000)
+    take.add_argument("--table", action="store_true")
+    arguments = take.parse_args()
+    unknown = [it for it in arguments.layers if it not in LAYERS]
+    if unknown:
+        sys.exit(f"planted/run.py: {unknown[0]} is no layer: they are {' '.join(LAYERS)}")
+    written() if arguments.table else tried(arguments)
+
+
+if __name__ == "__main__":
+    main()
