@@ -84,11 +84,13 @@ def edits_of(layers, only=""):
     return [it for it in [*planted, *kept] if it.layer in layers and only in f"{it.layer}/{it.name}"]
 
 
-def copied(room):
-    """A copy of the tree's sources, without what checks have kept."""
-    to = Path(room) / "tree"
+def copied(to):
+    """A copy of the tree's sources; what checks have kept in an older copy there stays."""
     for name in ("crates", "examples", "reference"):
-        shutil.copytree(TOP / name, to / name, ignore=shutil.ignore_patterns("out", "target"))
+        for file in (to / name).rglob("*"):
+            if file.is_file() and "out" not in file.relative_to(to).parts:
+                file.unlink()
+        shutil.copytree(TOP / name, to / name, dirs_exist_ok=True, ignore=shutil.ignore_patterns("out", "target"))
     shutil.copy(TOP / "crates.txt", to)
     return to
 
@@ -109,12 +111,13 @@ def place_of(said, crate):
     return f"{source[1].removeprefix('src/').removesuffix('.rt')}::{name}{fact}"
 
 
-def prover(crate, edits, room):
-    """What the prover says of each edit of a crate."""
-    tree = copied(room)
+def prover(crate, edits):
+    """What the prover says of each edit of a crate, in a copy that stays, so that the next run begins with what this one kept."""
+    tree = copied(PLANTED / "out" / "tree")
     folder = tree / "crates" / crate / "must-fail"
-    shutil.rmtree(folder, ignore_errors=True)
-    folder.mkdir()
+    for it in folder.glob("*.edit"):
+        it.unlink()
+    folder.mkdir(exist_ok=True)
     for edit in edits:
         shutil.copy(edit.path, folder)
     ran = subprocess.run(["rt", "must-fail", crate], cwd=tree, capture_output=True, text=True, errors="replace")
@@ -178,14 +181,9 @@ def tested(tree, crate):
 
 def found_otherwise(edit, cases):
     with tempfile.TemporaryDirectory(prefix="planted-") as room:
-        tree = copied(room)
+        tree = copied(Path(room) / "tree")
         edit.apply(tree)
         return compared(tree, kit_with_linker(room), cases) or tested(tree, edit.crate) or "nothing"
-
-
-def proved(crate, edits):
-    with tempfile.TemporaryDirectory(prefix="planted-") as room:
-        return prover(crate, edits, room)
 
 
 def record(edits, by_prover, otherwise):
@@ -206,7 +204,7 @@ def tried(arguments):
                     TOP / "reference" / "Cargo.toml"], check=True)
     by_prover, otherwise = {}, {}
     for crate in sorted({it.crate for it in edits}):
-        by_prover |= proved(crate, [it for it in edits if it.crate == crate])
+        by_prover |= prover(crate, [it for it in edits if it.crate == crate])
     with ThreadPoolExecutor(arguments.jobs) as pool:
         for edit, found in zip(edits, pool.map(lambda it: found_otherwise(it, arguments.cases), edits)):
             otherwise[edit.name] = found
