@@ -1,6 +1,9 @@
 #!/usr/bin/env bash
-# Builds the library, the example in C and the one in Rust, runs both, and compares what they print with what they must:
-# bindings/run.sh. The last line is `bindings: ok`.
+# Builds the library, the example in C and the one in Rust, runs both, and compares what they print with what they must.
+#
+#     bindings/run.sh
+#
+# The last line is `bindings: ok`.
 set -euo pipefail
 cd "$(dirname "$0")"
 library=$(../tools/product.sh library)
