@@ -57,6 +57,25 @@ mark b =
     (cond (b == 38) and' (cond (b == 124) or' (cond (b == 33) not' (cond (b == 40) open' (cond (b == 41) close'
     (strange' b))))))))))
 
+-- how many bytes what a word says takes
+abbrev pub width : Said → ℕ
+width X' = 1
+width G' = 1
+width R' = 1
+width U' = 1
+width F' = 1
+width and' = 1
+width or' = 1
+width not' = 1
+width open' = 1
+width close' = 1
+width in' = 2
+width out' = 3
+width true' = 4
+width false' = 5
+width (name' r) = length r
+width (strange' b) = 1
+
 -- Run bs r rest: bs is r and then rest, and r is the longest run of letters and digits that bs begins with
 pub data Run : List ℕ → List ℕ → List ℕ → Type 0 where
   ends : Run [] [] []
