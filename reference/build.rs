@@ -6,7 +6,10 @@ fn main() {
     if std::env::var_os("CARGO_FEATURE_LIBRARY").is_none() {
         return;
     }
-    let folder = std::env::var("LIBRARY").expect("LIBRARY names the folder of libcuzzambra.a");
+    let Ok(folder) = std::env::var("LIBRARY") else {
+        eprintln!("LIBRARY has to name the folder of libcuzzambra.a: see linked.sh");
+        std::process::exit(1);
+    };
     println!("cargo::rerun-if-changed={folder}/libcuzzambra.a");
     println!("cargo::rustc-link-search=native={folder}");
 }

@@ -4,7 +4,7 @@
 #     tools/product.sh program|library
 #
 # The program is crates/playbook/out/playbook; where PLAYBOOK names another one, that is printed and nothing is built. The
-# library is crates/cuzzambra/out/libcuzzambra.a. What is built already and has not changed takes seconds.
+# library is crates/cuzzambra/out/libcuzzambra.a. Where nothing has changed, the one takes a second and the other half a minute.
 set -eu
 cd "$(dirname "$0")/.."
 command -v rt >/dev/null || { echo "tools/product.sh: the toolchain's command rt is missing" >&2; exit 1; }
