@@ -24,7 +24,7 @@ import shutil
 import subprocess
 import sys
 import tempfile
-from concurrent.futures import ThreadPoolExecutor
+from concurrent.futures import ThreadPoolExecutor, as_completed
 from itertools import zip_longest
 from pathlib import Path
 
@@ -192,8 +192,8 @@ def compared(tree, kit, cases):
     if not program.exists():
         return f"NOT BUILT {tail(ran.stderr)}"
     words = [TOP / "reference" / "target" / "release" / "reference", "compare", "--seed", "1", "--cases", str(cases)]
-    ran = subprocess.run([*words, "--jobs", "1", "--program", program], capture_output=True, text=True, errors="replace",
-                         env={**os.environ, "TMPDIR": str(kit)})
+    ran = subprocess.run(["timeout", "900", *words, "--jobs", "1", "--program", program], capture_output=True, text=True,
+                         errors="replace", env={**os.environ, "TMPDIR": str(kit)})
     program.unlink()
     return "" if ran.returncode == 0 else "comparison"
 
@@ -253,8 +253,9 @@ def ask_others(edits, jobs, cases):
     subprocess.run(["cargo", "build", "--quiet", "--release", "--offline", "--manifest-path",
                     TOP / "reference" / "Cargo.toml"], check=True)
     with ThreadPoolExecutor(jobs) as pool:
-        for edit, found in zip(edits, pool.map(lambda it: found_otherwise(it, cases), edits)):
-            record(edit, 1, found)
+        asked = {pool.submit(found_otherwise, edit, cases): edit for edit in edits}
+        for done in as_completed(asked):
+            record(asked[done], 1, done.result())
 
 
 def table(layer):
