@@ -103,6 +103,9 @@ def place_of(said, crate):
     proof = re.search(r"proofs/([\w/]+)/\w+\.antt", said)
     if proof:
         return f"{proof[1].replace('/', '::')}{fact}"
+    law = re.search(r"proofs/(\w+)\.antt", said)
+    if law:
+        return f"{law[1]}{fact}"
     source = re.search(r"(src/[\w/]+\.rt):(\d+)", said)
     if not source:
         return said[:80]
