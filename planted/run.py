@@ -128,11 +128,17 @@ def place_of(said, crate):
     proof = re.search(r"proofs/([\w/]+)/\w+\.antt", said)
     if proof:
         return f"{proof[1].replace('/', '::')}{fact}"
+    law = re.search(r"proofs/(\w+)\.antt", said)
+    if law:
+        return f"{law[1]}{fact}"
     source = re.search(r"(src/[\w/]+\.rt):(\d+)", said)
     if not source:
         return said[:80]
     lines = (TOP / "crates" / crate / source[1]).read_text().splitlines()
-    above = (re.search(r"\bfn (\w+)", it) for it in reversed(lines[: int(source[2])]))
+    at = int(source[2])
+    while lines[at - 1].lstrip().startswith("#["):  # what the prover says of a function with a tactic stands at the tactic
+        at += 1
+    above = (re.search(r"\bfn (\w+)", it) for it in reversed(lines[:at]))
     name = next((it[1] for it in above if it), "?")
     return f"{source[1].removeprefix('src/').removesuffix('.rt')}::{name}{fact}"
 
