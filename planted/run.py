@@ -30,17 +30,39 @@ from pathlib import Path
 TOP = Path(__file__).resolve().parent.parent
 PLANTED = TOP / "planted"
 PAGE = TOP / "docs" / "PLANTED.md"
+# Each layer's title, and the promises that its functions serve.
 LAYERS = {
-    "signals": "Words and signals",
-    "rules": "Reading rules",
-    "lists": "Lists and progression",
-    "exploring": "Exploring",
-    "diagram": "Diagrams",
-    "pair": "Pairs",
-    "solving": "Solving",
-    "accepting": "Accepting",
-    "runs": "Runs",
-    "replay": "Replay",
+    "signals": (
+        "Words and signals",
+        "`next_word`, `words_stand`, `read_signals` (`outcome`, `only`), `clear`, `signal_of`, `Name::of`, `Register::enter`, `find`",
+    ),
+    "rules": (
+        "Reading rules",
+        "`read_rule` (`short`, `reads`), `reader_stands`, `texts::read`, `Part::is_duty`, `clear_parts`",
+    ),
+    "lists": ("Lists and progression", "`compile` (`outcome`: `Compiles`, with `Promise`; `only`)"),
+    "exploring": (
+        "Exploring",
+        "`compile` (`outcome`, `only`), `Compiled::game` (`means`) and its impl of `Game`, `Position::unused`",
+    ),
+    "diagram": (
+        "Diagrams",
+        "`Diagram::read` (`outcome`, `only`, `served`, `refused`) and its impl of `Game`, `is_outside`, `byte_at`, `word_at`",
+    ),
+    "pair": ("Pairs and looked-up games", "`Pair::of` (`means`), `MoveTable::of` (`means`), and their impls of `Game`"),
+    "solving": ("Solving", "`solve` (`solves`: `Solved`, `Declined`; `in_time`), `Count::is_at_most`, `is_one_more`"),
+    "accepting": (
+        "Accepting",
+        "`accept` (`Accepted`, `Unaccepted`), `flag_told`, `count_told`, `spoiling_told`, `answer_told`, `entry_at`",
+    ),
+    "runs": (
+        "Runs",
+        "`Run` and `Round`: `start`, `open`, `consult`, `set`, `close`, `abandon`; `Questions`; `Refusal::number`, `layer`, `place`",
+    ),
+    "replay": (
+        "Rows of calls, and the library",
+        "`take` (`after`, `told`), `finish`, `replay` (`Kept`: `told`, `ended`, `follows`, `spoils`), the calls of the library (`Gives`, `RowReplayed`)",
+    ),
 }
 # Crates whose own tests see more of them than the tests of `cases` do.
 TESTED = ("words", "reader")
@@ -224,7 +246,9 @@ def ask_others(edits, jobs, cases):
 
 def table(layer):
     rows = rows_of(layer)
-    lines = [f"## {LAYERS[layer]}", "", "| Wrong program | refused by the proof of | found otherwise by |", "|---|---|---|"]
+    title, promises = LAYERS[layer]
+    lines = [f"## {title}", "", f"Promises: {promises}.", ""]
+    lines += ["| Wrong program | refused by the proof of | found otherwise by |", "|---|---|---|"]
     for edit in sorted(edits_of([layer]), key=lambda it: it.name):
         by_prover, otherwise = rows.get(edit.name, ["-", "-"])
         kept = " *" if edit.kept else ""

@@ -108,3 +108,62 @@ drawn_draws bs w small =
           let none = sought_nowhere h bs x y rs h.records (head_at p) c.0 (chain_short bs w p rs at.0 within c) c.1 c.2 (λ r i v. n r i v.0 v.1) in
           cond_both _ _ _ (λ q. q ≡ 0) (λ _. refl) (λ _. none);
     }
+
+-- ---- one game is drawn
+
+module _ (h : Shape) (bs : List ℕ) (x y : ℕ) where
+  -- the record is not for x and y
+  Else : ℕ → Type 0
+  Else r = input_of h bs r ≡ x → output_of h bs r ≢ y
+
+  -- one of these records is for x and y, or none is
+  for_move : (rs : List ℕ) → ((r : ℕ) × In r rs × For h bs x y r) ⊎ ((r : ℕ) → In r rs → Else r)
+  for_move [] = inr (λ r i. absurd i)
+  for_move (q ∷ rs) = go (cases_eq (input_of h bs q) x) (cases_eq (output_of h bs q) y) (for_move rs)
+    where
+      later : ((r : ℕ) × In r rs × For h bs x y r) ⊎ ((r : ℕ) → In r rs → Else r) → Else q → ((r : ℕ) × In r (q ∷ rs) × For h bs x y r) ⊎ ((r : ℕ) → In r (q ∷ rs) → Else r)
+      later (inl f) n = inl (f.0, inr f.1, f.2)
+      later (inr f) n = inr (λ r i. elim i [ inl same ↦ subst Else same n | inr j ↦ f r j ])
+
+      go : (input_of h bs q ≡ x) ⊎ (input_of h bs q ≢ x) → (output_of h bs q ≡ y) ⊎ (output_of h bs q ≢ y)
+          → ((r : ℕ) × In r rs × For h bs x y r) ⊎ ((r : ℕ) → In r rs → Else r)
+          → ((r : ℕ) × In r (q ∷ rs) × For h bs x y r) ⊎ ((r : ℕ) → In r (q ∷ rs) → Else r)
+      go (inl e) (inl o) f = inl (q, inl refl, (e, o))
+      go (inl e) (inr n) f = later f (λ _. n)
+      go (inr n) o f = later f (λ e. absurd (n e))
+
+-- each position of a well-formed image has a chain
+chain_at : (bs : List ℕ) → WellFormed bs → (p : ℕ) → 1 ≤ p → p ≤ (shape_of bs).size → (rs : List ℕ) × Chain (shape_of bs) bs p rs
+chain_at bs w p l g =
+    let h = shape_of bs in
+    let e : suc (p - 1) ≡ p = omega arith in
+    let s = chains_part h bs h.size w.records w.linked.chains (p - 1) (omega arith) in
+    (s.1, subst (λ n. Chain h bs n s.1) e s.4)
+
+module _ (bs : List ℕ) (w : WellFormed bs) (a b : Arena) (s : Sound a) (t : Sound b) (d : Draws bs a) (e : Draws bs b) where
+  chain_moves : (p : ℕ) (rs : List ℕ) (x y : ℕ) → Place a p → Place b p → Chain (shape_of bs) bs p rs → a.move p x y ≡ b.move p x y
+  chain_moves p rs x y i j c = elim (for_move (shape_of bs) bs x y rs) [
+    | inl f ↦ (
+        let same : (g : ℕ → ℕ → ℕ) → g (input_of (shape_of bs) bs f.0) (output_of (shape_of bs) bs f.0) ≡ g x y = λ g. ap₂ g f.2.0 f.2.1 in
+        sym (same (λ u v. a.move p u v)) ∙ d.move p rs f.0 i c f.1 ∙ sym (e.move p rs f.0 j c f.1) ∙ same (λ u v. b.move p u v))
+    | inr f ↦ d.no_move p rs x y i c f ∙ sym (e.no_move p rs x y j c f)
+  ]
+
+  moves_once : (p x y : ℕ) → a.move p x y ≡ b.move p x y
+  moves_once zero x y = s.walks.from_lost x y ∙ sym (t.walks.from_lost x y)
+  moves_once (suc p) x y = elim (cases_le (suc p) (shape_of bs).size) [
+    | inl l ↦ (
+        let c = chain_at bs w (suc p) (omega arith) l in
+        chain_moves (suc p) c.0 x y (omega arith, omega (arith, d.size)) (omega arith, omega (arith, e.size)) c.1)
+    | inr g ↦ s.sized.past_size _ x y (omega (arith, d.size)) ∙ sym (t.sized.past_size _ x y (omega (arith, e.size)))
+  ]
+
+  -- a well-formed image draws one game
+  pub draws_once : a ≡ b
+  draws_once = λ i. record {
+    size = (d.size ∙ sym e.size) i;
+    inputs = (d.inputs ∙ sym e.inputs) i;
+    outputs = (d.outputs ∙ sym e.outputs) i;
+    start = (d.start ∙ sym e.start) i;
+    move = λ p x y. moves_once p x y i;
+  }

@@ -211,7 +211,7 @@ drawable h = (nat_le h.inputs 4 && nat_le h.outputs 4) && ((nat_le 1 h.start && 
 abbrev pub told : Shape → ℕ → ℕ
 told h n = cond (drawable h) n 0
 
--- what a diagram of this header and these bytes means, whatever they are; a header that reading refuses draws size 0
+-- what a diagram of this header and these bytes means, whatever they are; a header whose numbers can be no game's draws size 0
 abbrev pub drawn : Shape → List ℕ → Arena
 drawn h bs = record {
   size = told h h.size;

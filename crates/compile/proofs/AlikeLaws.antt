@@ -6,7 +6,8 @@ use lib.Bits.{bit_and, and_le_l}
 use Rattle.std.proofs.lemmas.Bool.{cond-true, cond-false, cond_both, le-ltb}
 use Rattle.rules.specs.declared.part.Part.{Part}
 use Rattle.rules.specs.Sets.{Sets, too_wide, sets}
-use Rattle.rules.specs.Explore.{positions, same_list, met}
+use Rattle.terms.specs.Lists.{same_list}
+use Rattle.rules.specs.Explore.{positions, met}
 use Rattle.rules.specs.Game.{number_from}
 use Rattle.compile.specs.declared.mask.Mask.{Mask}
 use Rattle.compile.specs.declared.position.Position.{Position}

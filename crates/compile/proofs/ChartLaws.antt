@@ -6,7 +6,8 @@ use Rattle.arena.specs.Tally.{Played}
 use Rattle.rules.specs.declared.part.Part.{Part}
 use Rattle.rules.specs.Sets.{Sets, too_wide, sets}
 use Rattle.rules.specs.Progress.{list_after}
-use Rattle.rules.specs.Explore.{positions, same_list, among, met, lists}
+use Rattle.terms.specs.Lists.{same_list}
+use Rattle.rules.specs.Explore.{positions, among, met, lists}
 use Rattle.rules.specs.Game.{number_from, position}
 use Rattle.rules.proofs.CompileLaws.{Is, Grows, among_front, met_ok}
 use Rattle.compile.specs.declared.position.Position.{Position}

@@ -64,9 +64,3 @@ join_one (x ∷ w ∷ xs) (y ∷ ys) e =
     let some : 1 ≤ length (y ∷ ys) = omega arith in
     let two : 2 * 1 ≤ length (x ∷ w ∷ xs) * length (y ∷ ys) = mul-le-mul more some in
     absurd (omega (arith, two, e))
-
--- a list that cannot be met stays so
-pub join_gone : (xs ys : List ℕ) → length xs ≡ 0 → join_and (sets xs) (sets ys) ≡ sets xs
-unfolding join_and
-join_gone [] ys e = refl
-join_gone (x ∷ xs) ys e = absurd (omega (arith, e))

@@ -7,11 +7,13 @@ use Rattle.std.proofs.lemmas.Slice.Eq.{slice_eq-Decides}
 use Rattle.std.proofs.lemmas.Bool.{cond-true, cond-false, or_left, or_right, or_from}
 use Rattle.std.proofs.lemmas.Bool.Decides.{same_from_decides, Decides-eqb, Decides-like}
 use Rattle.register.specs.Places.{place}
-use Rattle.rules.specs.Explore.{same_list, among}
+use Rattle.terms.specs.Lists.{same_list}
+use Rattle.rules.specs.Explore.{among}
 use Rattle.rules.specs.Game.{number_from}
 use Rattle.compile.specs.declared.position.Position.{Position}
 use Rattle.compile.specs.Positions.{same_position}
-use Rattle.compile.specs.Same.{same_list_decides, same_position_decides}
+use Rattle.terms.proofs.ListLaws.{same_list_decides}
+use Rattle.compile.specs.Same.{same_position_decides}
 
 -- what `==` says of sets
 pub matched : (xs ys : List ℕ) (r : Bool) → r ≡ pointwise eqb xs ys → r ≡ same_list xs ys

@@ -5,7 +5,8 @@ use Rattle.std.proofs.lemmas.Bool.{cond-true, cond-false, lt-ltb, le-ltb, or_par
 use Rattle.register.specs.Places.{place, number, kept}
 use Rattle.register.proofs.PlaceLaws.{number_there, kept_there, number_full, number_new, kept_new}
 use Rattle.rules.specs.Sets.{sets}
-use Rattle.rules.specs.Explore.{too_many, positions, same_list, among, met}
+use Rattle.terms.specs.Lists.{same_list}
+use Rattle.rules.specs.Explore.{too_many, positions, among, met}
 use Rattle.rules.specs.Game.{number_from}
 use Rattle.rules.proofs.CompileLaws.{same_list_self, among_end}
 use Rattle.compile.specs.declared.position.Position.{Position}

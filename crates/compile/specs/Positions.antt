@@ -8,7 +8,8 @@ use Rattle.arena.specs.Tally.{Played}
 use Rattle.rules.specs.declared.part.Part.{Part}
 use Rattle.rules.specs.Sets.{sets}
 use Rattle.rules.specs.Progress.{list_after}
-use Rattle.rules.specs.Explore.{Compiled, too_large, lost_start, wide_at, too_many, positions, same_list}
+use Rattle.terms.specs.Lists.{same_list}
+use Rattle.rules.specs.Explore.{Compiled, too_large, lost_start, wide_at, too_many, positions}
 use Rattle.rules.specs.Game.{position}
 use Rattle.compile.specs.declared.position.Position.{Position}
 

@@ -84,7 +84,7 @@ impl Joins {
         self.made[slot].list
     }
 
-    // Joins another list to `all`, in place where each has one set or one of them none.
+    // Joins another list to `all`, in place where each has one set, or `all` has none.
     pub(crate) fn add(&mut self, all: &mut DutyList, one: &DutyList) -> Option<()>
         ensures { MatchOption result (join_and (sets all.old) (sets one.now) ≡ too_wide) (λ _. join_and (sets all.old) (sets one.now) ≡ sets all.new) }
     {

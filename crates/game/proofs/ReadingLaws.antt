@@ -6,7 +6,8 @@ use Rattle.std.proofs.lemmas.Bool.{cases_lt, cases_eq, cases_Bool, true≢false,
 use Rattle.terms.specs.declared.shape.Shape.{Shape}
 use Rattle.terms.specs.declared.refusal.Refusal.{Refusal}
 use Rattle.terms.specs.declared.refusal.Refusal.TheVariants.{DiagramField}
-use Rattle.arena.specs.Diagram.{shape_of, head_at, record_at, next_at, input_of, output_of, Record, RecordRight, Fielded, Path, Chain, Chains, Distinct, Linked, Unrepeated, WellFormed, First, IndexWrong, Unreached, Repeated, Refused, sought, drawable}
+use Rattle.arena.specs.Arena.{Arena, Sound}
+use Rattle.arena.specs.Diagram.{shape_of, head_at, record_at, next_at, input_of, output_of, Record, RecordRight, Fielded, Path, Chain, Chains, Distinct, Linked, Unrepeated, WellFormed, First, IndexWrong, Unreached, Repeated, Refused, Draws, sought, drawable}
 use Rattle.terms.specs.Bytes.{byte, word}
 use Rattle.arena.proofs.ChainLaws.{in_left, in_right, in_either, distinct_push, path_push, chain_once, chains_part, unrepeated_none, unrepeated_push}
 use Rattle.arena.proofs.DrawnLaws.{sought_here, sought_past}
@@ -324,9 +325,10 @@ passed_on bs d (Ok x) P is w = absurd is
 passed_on bs d (Err f) P is w = subst (Refused bs) (sym is) w
 
 -- a call that passes the refusal d on has the one outcome of the image
-pub passed : {T : Type 0} (bs : List ℕ) (d : Refusal) (r : Result T Refusal) (P : T → Type 0) → IsErrAnd r (λ f. f ≡ d) → Refused bs d → record { outcome : MatchResult r P (λ f. Refused bs f); served : WellFormed bs → is_ok r ≡ true; refused : (e : Refusal) → Refused bs e → MatchResult r (λ _. ⊥) (λ f. f ≡ e) }
-passed bs d (Ok x) P is w = absurd is
-passed bs d (Err f) P is w = record {
+pub passed : {T : Type 0} (bs : List ℕ) (d : Refusal) (r : Result T Refusal) (P : T → Type 0) (Q : Arena → T → Type 0) → IsErrAnd r (λ f. f ≡ d) → Refused bs d → record { outcome : MatchResult r P (λ f. Refused bs f); only : (a : Arena) → Sound a → Draws bs a → MatchResult r (Q a) (λ f. Refused bs f); served : WellFormed bs → is_ok r ≡ true; refused : (e : Refusal) → Refused bs e → MatchResult r (λ _. ⊥) (λ f. f ≡ e) }
+passed bs d (Ok x) P Q is w = absurd is
+passed bs d (Err f) P Q is w = record {
+  only = λ a s v. subst (Refused bs) (sym is) w;
   outcome = subst (Refused bs) (sym is) w;
   served = λ v. absurd (well_formed_not_refused bs d v w);
   refused = λ e v. is ∙ one_refusal bs d e w v;

@@ -1,5 +1,6 @@
 // A game drawn as chains of records, in bytes that the caller lends.
 ghost use Rattle.std.specs.Prelude.{◌≡◌, ◌≤◌, true, is_ok, MatchResult};
+ghost use Rattle.arena.specs.Arena.{Arena, Sound};
 ghost use Rattle.arena.specs.Diagram.{shape_of, drawable, drawn, sought, head_at, Fielded, WellFormed, Refused, Draws};
 ghost use Rattle.arena.proofs.DiagramLaws.{drawn_sound};
 
@@ -25,6 +26,7 @@ impl<'a> Diagram<'a> {
     // The game that the bytes draw, or the first thing that is wrong with them.
     pub fn read(bytes: &'a [u8]) -> Result<Diagram<'a>, Refusal>
         ensures outcome { MatchResult result (λ d. WellFormed bytes.now × Draws bytes.now (⟦<Diagram<'static> as Game>⟧.meaning d)) (λ e. Refused bytes.now e) }
+        ensures only { (a : Arena) → Sound a → Draws bytes.now a → MatchResult result (λ d. a ≡ ⟦<Diagram<'static> as Game>⟧.meaning d) (λ e. Refused bytes.now e) }
         ensures served { WellFormed bytes.now → is_ok result ≡ true }
         ensures refused { (e : Refusal) → Refused bytes.now e → MatchResult result (λ _. ⊥) (λ f. f ≡ e) }
     {

@@ -15,7 +15,8 @@ pub struct MoveTable<'a, G: Game> {
 impl<'a, G: Game> MoveTable<'a, G> {
     // Asks a game for each of its moves, and those alone of positions that it has.
     pub fn of(game: &'a G) -> MoveTable<'a, G>
-        ensures { result.game.now ≡ game.now }
+        ensures game { result.game.now ≡ game.now }
+        ensures means { ⟦<MoveTable<'a, G> as Game>⟧.meaning result ≡ G.meaning game.now }
     {
         let mut moves = [0; 65536];
         for at in 0..(game.size() as usize + 1) * 256 {

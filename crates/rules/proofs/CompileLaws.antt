@@ -11,7 +11,9 @@ use Rattle.rules.specs.Sets.{Sets, too_wide, sets}
 use Rattle.rules.specs.Parts.{duty_number}
 use Rattle.rules.specs.Table.{parts_of}
 use Rattle.rules.specs.Progress.{list_of, list_after, list_after_all}
-use Rattle.rules.specs.Explore.{Compiled, too_large, lost_start, wide_at, too_many, positions, same_list, among, met, move, numbers, with_inputs, rounds, turn, explore, start, compiled, lists, InRange, AllInRange}
+use Rattle.terms.specs.Lists.{same_list}
+use Rattle.terms.proofs.ListLaws.{same_list_decides}
+use Rattle.rules.specs.Explore.{Compiled, too_large, lost_start, wide_at, too_many, positions, among, met, move, numbers, with_inputs, rounds, turn, explore, start, compiled, lists, InRange, AllInRange}
 use Rattle.rules.proofs.TableLaws.{rule_lost_right}
 
 abbrev pub Each : {A : Type 0} → (A → Type 0) → List A → Type 0
@@ -47,9 +49,6 @@ round_in P i o r h l =
     number_in (λ y. P (record { input = r.input; output = y })) (2 ^ o) 0 r.output row (omega arith) (omega (arith, l.1))
 
 -- lists among others
-same_list_decides : (xs ys : List ℕ) → Decides (same_list xs ys) (xs ≡ ys)
-same_list_decides = compares_Decides same_list (record { empty = refl; shorter = λ y s. refl; longer = λ x s. refl; heads = λ x y s t. refl })
-
 pub same_list_true : (xs ys : List ℕ) → same_list xs ys ≡ true → xs ≡ ys
 same_list_true xs ys = (same_list_decides xs ys).0
 

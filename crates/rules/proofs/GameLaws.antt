@@ -8,7 +8,8 @@ use Rattle.rules.specs.Rule.{Rule, Fails}
 use Rattle.rules.specs.Sets.{Sets, too_wide, sets}
 use Rattle.rules.specs.Table.{parts_of}
 use Rattle.rules.specs.Progress.{list_after, list_after_all}
-use Rattle.rules.specs.Explore.{Compiled, too_large, lost_start, wide_at, too_many, positions, same_list, among, rounds, compiled, start, lists, InRange, AllInRange}
+use Rattle.terms.specs.Lists.{same_list}
+use Rattle.rules.specs.Explore.{Compiled, too_large, lost_start, wide_at, too_many, positions, among, rounds, compiled, start, lists, InRange, AllInRange}
 use Rattle.arena.specs.Arena.{Arena, Sound}
 use Rattle.rules.specs.Game.{number_from, position, rule_move, game}
 use Rattle.rules.proofs.CompileLaws.{Ok, Grows, Is, Closed, same_list_true, same_list_self, run_ok, start_of, found}

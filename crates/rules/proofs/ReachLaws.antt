@@ -10,7 +10,8 @@ use Rattle.rules.specs.Sets.{Sets, too_wide, sets}
 use Rattle.rules.specs.Parts.{duty_number}
 use Rattle.rules.specs.Table.{parts_of}
 use Rattle.rules.specs.Progress.{list_after, list_after_all}
-use Rattle.rules.specs.Explore.{Compiled, too_large, too_many, positions, same_list, among, met, move, numbers, with_inputs, rounds, turn, explore, start, compiled, lists, InRange, AllInRange, led_to, Reachable}
+use Rattle.terms.specs.Lists.{same_list}
+use Rattle.rules.specs.Explore.{Compiled, too_large, too_many, positions, among, met, move, numbers, with_inputs, rounds, turn, explore, start, compiled, lists, InRange, AllInRange, led_to, Reachable}
 use Rattle.rules.proofs.CompileLaws.{Each, Ok, run_ok, among_at, same_list_self, Found, found, start_of}
 
 -- lists that are each good, and apart

@@ -1,5 +1,6 @@
 -- The positions of a compiled rule.
 use Rattle.std.specs.Prelude.{◌≡◌, ℕ, zero, suc, ◌^◌, ◌<◌, Bool, true, false, cond, ◌&&◌, ◌||◌, List, [], ◌∷◌, ◌++◌, map, length, drop, fold, ◌==◌, ◌≢◌, nat_le, nat_lt, slice_index_or}
+use Rattle.terms.specs.Lists.{same_list}
 use Rattle.arena.specs.Tally.{Played}
 use Rattle.rules.specs.declared.part.Part.{Part}
 use Rattle.rules.specs.Rule.{Rule}
@@ -15,12 +16,6 @@ pub data Compiled : Type 0 where
   wide_at : ℕ → Compiled
   too_many : Compiled
   positions : List (List ℕ) → Compiled
-
-abbrev pub same_list : List ℕ → List ℕ → Bool
-same_list [] [] = true
-same_list [] (y ∷ ys) = false
-same_list (x ∷ xs) [] = false
-same_list (x ∷ xs) (y ∷ ys) = x == y && same_list xs ys
 
 abbrev pub among : List (List ℕ) → List ℕ → Bool
 among [] s = false

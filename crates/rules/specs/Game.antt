@@ -5,7 +5,8 @@ use Rattle.rules.specs.Rule.{Rule}
 use Rattle.rules.specs.Sets.{Sets, too_wide, sets}
 use Rattle.rules.specs.Table.{parts_of}
 use Rattle.rules.specs.Progress.{list_after}
-use Rattle.rules.specs.Explore.{same_list, compiled, lists}
+use Rattle.terms.specs.Lists.{same_list}
+use Rattle.rules.specs.Explore.{compiled, lists}
 use Rattle.arena.specs.Arena.{Arena}
 
 -- the number of the list s, where these positions number from k; 0 where it is none

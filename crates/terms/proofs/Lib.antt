@@ -1,2 +1,4 @@
 pub mod BestLaws
+pub mod ListLaws
+pub mod RefusalLaws
 pub mod OrderLaws

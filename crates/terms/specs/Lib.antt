@@ -1,4 +1,5 @@
 pub mod Refusals
 pub mod Bytes
+pub mod Lists
 pub mod Best
 pub mod Order

@@ -1,4 +1,5 @@
 pub mod WordLaws
+pub mod WidthLaws
 pub mod PlainLaws
 pub mod NameLaws
 pub mod SoughtLaws

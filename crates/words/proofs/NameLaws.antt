@@ -9,7 +9,7 @@ use Rattle.register.proofs.PlaceLaws.{number_there, number_new, number_full, kep
 use Rattle.terms.specs.declared.refusal.Refusal.{Refusal}
 use Rattle.terms.specs.declared.refusal.Refusal.TheVariants.{BadName, TooManySignals}
 use Rattle.words.specs.declared.name.Name.{Name}
-use Rattle.words.specs.Same.{same_decides}
+use Rattle.terms.proofs.ListLaws.{same_list_decides}
 use Rattle.words.specs.Names.{padding, name_of, same_name, HoldsNames}
 use Rattle.words.specs.Signals.{In}
 use Rattle.words.specs.Steps.{counted, entered}
@@ -29,7 +29,7 @@ unpadded (a ∷ x) (b ∷ y) m n p q e =
     cc
 
 pub padding_one : (x y : List ℕ) → Plain x → Plain y → same_name (padding x) (padding y) ≡ true → x ≡ y
-padding_one x y p q e = unpadded x y (8 - length x) (8 - length y) p q ((same_decides (padding x).bytes (padding y).bytes).0 e)
+padding_one x y p q e = unpadded x y (8 - length x) (8 - length y) p q ((same_list_decides (padding x).bytes (padding y).bytes).0 e)
 
 module _ (x : List ℕ) where
   -- a name that is found is one of those stored
@@ -48,7 +48,7 @@ module _ (x : List ℕ) where
     where
       go : (length xs ≤ place same_name (padding x) (map padding xs) → In x xs → ⊥) → (b : Bool) → same_name (padding x) (padding y) ≡ b → length (y ∷ xs) ≤ cond (not b) (1 + place same_name (padding x) (map padding xs)) 0 → In x (y ∷ xs) → ⊥
       go on true e l j = omega arith
-      go on false e l (inl j) = both_ways _ e ((same_decides (padding x).bytes (padding y).bytes).1 (ap (λ z. (padding z).bytes) j))
+      go on false e l (inl j) = both_ways _ e ((same_list_decides (padding x).bytes (padding y).bytes).1 (ap (λ z. (padding z).bytes) j))
       go on false e l (inr j) = on (omega arith) j
 
 -- how entering the name x comes out, behind count of its kind: it is too long or there already, it is one too many, or

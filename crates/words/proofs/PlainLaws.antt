@@ -3,7 +3,8 @@ use Rattle.std.specs.Prelude.{◌≡◌, ℕ, Bool, true, false, cond, List, [],
 use Rattle.std.proofs.Common.{ap, subst}
 use Rattle.std.specs.List.{AllByRecursion}
 use Rattle.std.proofs.lemmas.Bool.{both_ways}
-use Rattle.words.specs.Words.{Said, X', G', R', U', F', and', or', not', open', close', in', out', true', false', name', Placed, at, said, other, kind, goes_on, same, spelled, mark, Run, ends, stops, more, Words, none, gap, one, long, words_from}
+use Rattle.terms.specs.Lists.{same_list}
+use Rattle.words.specs.Words.{Said, X', G', R', U', F', and', or', not', open', close', in', out', true', false', name', Placed, at, said, other, kind, goes_on, spelled, mark, Run, ends, stops, more, Words, none, gap, one, long, words_from}
 use Rattle.words.proofs.WordLaws.{from_words}
 
 -- a name has no zero byte
@@ -40,10 +41,10 @@ plain_mark b =
 
 plain_spelled : (r : List ℕ) → Plain r → Plainly (spelled r)
 plain_spelled r p =
-    plain_cond (same r (105 ∷ 110 ∷ [])) in' _ (λ x e. cc) (
-    plain_cond (same r (111 ∷ 117 ∷ 116 ∷ [])) out' _ (λ x e. cc) (
-    plain_cond (same r (116 ∷ 114 ∷ 117 ∷ 101 ∷ [])) true' _ (λ x e. cc) (
-    plain_cond (same r (102 ∷ 97 ∷ 108 ∷ 115 ∷ 101 ∷ [])) false' _ (λ x e. cc) (plain_name r p))))
+    plain_cond (same_list r (105 ∷ 110 ∷ [])) in' _ (λ x e. cc) (
+    plain_cond (same_list r (111 ∷ 117 ∷ 116 ∷ [])) out' _ (λ x e. cc) (
+    plain_cond (same_list r (116 ∷ 114 ∷ 117 ∷ 101 ∷ [])) true' _ (λ x e. cc) (
+    plain_cond (same_list r (102 ∷ 97 ∷ 108 ∷ 115 ∷ 101 ∷ [])) false' _ (λ x e. cc) (plain_name r p))))
 
 plain_run : {bs r rest : List ℕ} → Run bs r rest → Plain r
 plain_run ends = tt

@@ -10,14 +10,14 @@ use Rattle.words.specs.Names.{padding, name_of, same_name, HoldsNames, Named}
 use Rattle.words.specs.Signals.{In, Distinct}
 use Rattle.words.proofs.PlainLaws.{Plain}
 use Rattle.words.proofs.NameLaws.{padding_one, room}
-use Rattle.words.specs.Same.{same_decides}
+use Rattle.terms.proofs.ListLaws.{same_list_decides}
 
 -- names that are the same are equal
 name_equal : (a b : Name) → same_name a b ≡ true → b ≡ a
-name_equal a b h = let wrap : List ℕ → Name = λ l. record { bytes = l } in ap wrap (sym ((same_decides a.bytes b.bytes).0 h))
+name_equal a b h = let wrap : List ℕ → Name = λ l. record { bytes = l } in ap wrap (sym ((same_list_decides a.bytes b.bytes).0 h))
 
 name_self : (a b : Name) → b ≡ a → same_name a b ≡ true
-name_self a b e = (same_decides a.bytes b.bytes).1 (ap (λ n. n.bytes) (sym e))
+name_self a b e = (same_list_decides a.bytes b.bytes).1 (ap (λ n. n.bytes) (sym e))
 
 -- a run that is a name has at most eight bytes
 pub name_of_some : (x : List ℕ) (n : Name) → name_of x ≡ Some n → (length x ≤ 8) × (n ≡ padding x)

@@ -4,7 +4,7 @@
 use Rattle.std.specs.Prelude.{◌≡◌, ℕ, ◌-◌, ◌<◌, ◌≤◌, Bool, cond, List, [], ◌++◌, map, length, get_or, take, replicate, Some, None, Option, ◌≢◌, nat_le, slice_index_or}
 use Rattle.register.specs.Places.{found}
 use Rattle.words.specs.declared.name.Name.{Name}
-use Rattle.words.specs.Words.{same}
+use Rattle.terms.specs.Lists.{same_list}
 
 -- a name of at most eight bytes, padded with zeros
 abbrev pub padding : List ℕ → Name
@@ -16,7 +16,7 @@ name_of x = cond (nat_le (length x) 8) (Some (padding x)) None
 
 -- two names are the same where all their bytes agree
 abbrev pub same_name : Name → Name → Bool
-same_name a b = same a.bytes b.bytes
+same_name a b = same_list a.bytes b.bytes
 
 -- a store holds these names, in this order, and zeros behind them
 abbrev pub HoldsNames : List (List ℕ) → List Name → Type 0

@@ -2,6 +2,7 @@
 -- Said: what a word says. Words: the words of a text, as a relation. words_from: the same, computed from a place on.
 use Rattle.std.specs.Prelude.{◌≡◌, ℕ, zero, suc, ◌+◌, Bool, true, false, cond, ◌&&◌, ◌||◌, List, [], ◌∷◌, length, take, drop, Some, None, Option, ◌==◌, nat_le}
 use Rattle.std.specs.List.{prefix_len}
+use Rattle.terms.specs.Lists.{same_list}
 use Rattle.words.specs.declared.word.Word.{Word}
 use Rattle.words.specs.declared.word.Word.TheVariants.{Next, Always, Release, Until, Finally, And, Or, Not, Open, Close, In, Out, True, False, Name, Strange, End}
 use Rattle.words.specs.declared.word.Token.{Token}
@@ -40,19 +41,13 @@ kind b = cond (is_blank b) blank (cond (nat_le 97 b && nat_le b 122) letter othe
 abbrev pub goes_on : ℕ → Bool
 goes_on b = (nat_le 97 b && nat_le b 122) || (nat_le 48 b && nat_le b 57)
 
-abbrev pub same : List ℕ → List ℕ → Bool
-same [] [] = true
-same [] (y ∷ ys) = false
-same (x ∷ xs) [] = false
-same (x ∷ xs) (y ∷ ys) = x == y && same xs ys
-
 -- the word that a run of letters and digits is: in, out, true, false or a name
 abbrev pub spelled : List ℕ → Said
 spelled r =
-    cond (same r (105 ∷ 110 ∷ [])) in'
-    (cond (same r (111 ∷ 117 ∷ 116 ∷ [])) out'
-    (cond (same r (116 ∷ 114 ∷ 117 ∷ 101 ∷ [])) true'
-    (cond (same r (102 ∷ 97 ∷ 108 ∷ 115 ∷ 101 ∷ [])) false'
+    cond (same_list r (105 ∷ 110 ∷ [])) in'
+    (cond (same_list r (111 ∷ 117 ∷ 116 ∷ [])) out'
+    (cond (same_list r (116 ∷ 114 ∷ 117 ∷ 101 ∷ [])) true'
+    (cond (same_list r (102 ∷ 97 ∷ 108 ∷ 115 ∷ 101 ∷ [])) false'
     (name' r))))
 
 -- the word of one byte that b is; a byte that begins no word is strange
@@ -61,6 +56,25 @@ mark b =
     cond (b == 88) X' (cond (b == 71) G' (cond (b == 82) R' (cond (b == 85) U' (cond (b == 70) F'
     (cond (b == 38) and' (cond (b == 124) or' (cond (b == 33) not' (cond (b == 40) open' (cond (b == 41) close'
     (strange' b))))))))))
+
+-- how many bytes what a word says takes
+abbrev pub width : Said → ℕ
+width X' = 1
+width G' = 1
+width R' = 1
+width U' = 1
+width F' = 1
+width and' = 1
+width or' = 1
+width not' = 1
+width open' = 1
+width close' = 1
+width in' = 2
+width out' = 3
+width true' = 4
+width false' = 5
+width (name' r) = length r
+width (strange' b) = 1
 
 -- Run bs r rest: bs is r and then rest, and r is the longest run of letters and digits that bs begins with
 pub data Run : List ℕ → List ℕ → List ℕ → Type 0 where

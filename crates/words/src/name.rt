@@ -2,7 +2,7 @@
 ghost use Rattle.std.specs.Prelude.{◌≡◌, refl};
 ghost use Rattle.std.proofs.Common.{sym, ◌∙◌};
 ghost use Rattle.words.specs.Names.{name_of, same_name};
-ghost use Rattle.words.specs.Same.{same_decides};
+ghost use Rattle.terms.proofs.ListLaws.{same_list_decides};
 
 use register::Same;
 
@@ -30,11 +30,11 @@ impl Name {
 impl Same for Name {
     ghost same = { same_name };
 
-    ghost reflexive = { λ x. (same_decides x.bytes x.bytes).1 refl };
+    ghost reflexive = { λ x. (same_list_decides x.bytes x.bytes).1 refl };
 
-    ghost symmetric = { λ x y h. (same_decides y.bytes x.bytes).1 (sym ((same_decides x.bytes y.bytes).0 h)) };
+    ghost symmetric = { λ x y h. (same_list_decides y.bytes x.bytes).1 (sym ((same_list_decides x.bytes y.bytes).0 h)) };
 
-    ghost transitive = { λ x y z h k. (same_decides x.bytes z.bytes).1 ((same_decides x.bytes y.bytes).0 h ∙ (same_decides y.bytes z.bytes).0 k) };
+    ghost transitive = { λ x y z h k. (same_list_decides x.bytes z.bytes).1 ((same_list_decides x.bytes y.bytes).0 h ∙ (same_list_decides y.bytes z.bytes).0 k) };
 
     fn same_as(&self, other: &Name) -> bool {
         self == other

@@ -1,7 +1,7 @@
 // The word reader.
-ghost use Rattle.std.specs.Prelude.{◌≡◌, ◌<◌, ◌≤◌, length, Some};
+ghost use Rattle.std.specs.Prelude.{◌≡◌, ◌+◌, ◌<◌, ◌≤◌, length, Some};
 ghost use Rattle.std.specs.List.{prefix_len};
-ghost use Rattle.words.specs.Words.{Said, is_blank, goes_on, spelled, mark, says, end_token, Comes, WordsStand};
+ghost use Rattle.words.specs.Words.{Said, is_blank, goes_on, spelled, mark, width, says, end_token, Comes, WordsStand};
 
 use crate::word::{Token, Word};
 
@@ -67,6 +67,7 @@ pub fn next_word(text: &[u8], from: usize) -> Token<'_>
     ensures past { length text.now < from → result ≡ end_token (length text.now) }
     ensures ordered { result.at ≤ result.next }
     ensures within { result.next ≤ length text.now }
+    ensures behind { (s : Said) → says result.word ≡ Some s → result.next ≡ result.at + width s }
     ensures moves { (s : Said) → says result.word ≡ Some s → result.at < result.next }
 {
     let start = from.min(text.len());

@@ -13,8 +13,8 @@ use Rattle.arena.proofs.ControlLaws.{values_proper}
 use Rattle.book.specs.Told.{count_told, spoiling_told, answer_told, count_in}
 use Rattle.book.specs.Agreeing.{Follows, Expected, AgreesAt, Agrees}
 use Rattle.book.proofs.ToldLaws.{agrees_right, told_count_is}
-use Rattle.compile.specs.Same.{same_list_decides}
-use Rattle.rules.specs.Explore.{same_list}
+use Rattle.terms.proofs.ListLaws.{same_list_decides}
+use Rattle.terms.specs.Lists.{same_list}
 use Rattle.worked.specs.Worked.{Row, endless, book_of, Shows}
 
 -- ---- tests

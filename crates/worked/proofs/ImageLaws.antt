@@ -3,7 +3,7 @@ use Rattle.std.proofs.Common.{◌≡◌, ℕ, zero, suc, ◌+◌, ◌<◌, ◌�
 use Rattle.std.proofs.lemmas.Bool.{cases_eq}
 use Rattle.arena.specs.Arena.{Arena, Place, Sound}
 use Rattle.arena.proofs.DiagramLaws.{drawn_sound}
-use Rattle.arena.proofs.DrawnLaws.{drawn_draws}
+use Rattle.arena.proofs.DrawnLaws.{drawn_draws, draws_once}
 use Rattle.terms.specs.Bytes.{byte, word}
 use Rattle.terms.specs.declared.shape.Shape.{Shape}
 use Rattle.arena.specs.Diagram.{shape_of, record_at, input_of, output_of, Record, HeaderRight, RecordRight, Fielded, Chain, In, Linked, Repeats, Unrepeated, WellFormed, Draws, drawn}
@@ -91,53 +91,6 @@ unrepeated (suc (suc (suc p))) rs l m c = absurd (omega arith)
 pub image_formed : WellFormed image
 image_formed = record { records = 1 ∷ 2 ∷ 3 ∷ []; linked = linked; unrepeated = unrepeated }
 
--- ---- the drawn game
-
--- one of these records is for the input x and the output y, or none is
-for_move : (x y : ℕ) (rs : List ℕ) → ((r : ℕ) × In r rs × (input_of shape image r ≡ x) × (output_of shape image r ≡ y)) ⊎ ((r : ℕ) → In r rs → input_of shape image r ≡ x → output_of shape image r ≢ y)
-for_move x y [] = inr (λ r i. absurd i)
-for_move x y (q ∷ rs) = go (cases_eq (input_of shape image q) x) (cases_eq (output_of shape image q) y) (for_move x y rs)
-  where
-    For : ℕ → Type 0
-    For r = (input_of shape image r ≡ x) × (output_of shape image r ≡ y)
-
-    later : ((r : ℕ) × In r rs × (input_of shape image r ≡ x) × (output_of shape image r ≡ y)) ⊎ ((r : ℕ) → In r rs → input_of shape image r ≡ x → output_of shape image r ≢ y) → (input_of shape image q ≡ x → output_of shape image q ≢ y)
-        → ((r : ℕ) × In r (q ∷ rs) × (input_of shape image r ≡ x) × (output_of shape image r ≡ y)) ⊎ ((r : ℕ) → In r (q ∷ rs) → input_of shape image r ≡ x → output_of shape image r ≢ y)
-    later (inl h) n = inl (h.0, inr h.1, h.2, h.3)
-    later (inr h) n = inr (λ r i e. elim i [ inl same ↦ (λ o. n (ap (input_of shape image) (sym same) ∙ e) (ap (output_of shape image) (sym same) ∙ o)) | inr j ↦ h r j e ])
-
-    go : (input_of shape image q ≡ x) ⊎ (input_of shape image q ≢ x) → (output_of shape image q ≡ y) ⊎ (output_of shape image q ≢ y)
-        → ((r : ℕ) × In r rs × (input_of shape image r ≡ x) × (output_of shape image r ≡ y)) ⊎ ((r : ℕ) → In r rs → input_of shape image r ≡ x → output_of shape image r ≢ y)
-        → ((r : ℕ) × In r (q ∷ rs) × (input_of shape image r ≡ x) × (output_of shape image r ≡ y)) ⊎ ((r : ℕ) → In r (q ∷ rs) → input_of shape image r ≡ x → output_of shape image r ≢ y)
-    go (inl e) (inl o) h = inl (q, inl refl, e, o)
-    go (inl e) (inr n) h = later h (λ _. n)
-    go (inr n) o h = later h (λ e. absurd (n e))
-
-module _ (a b : Arena) (s : Sound a) (t : Sound b) (d : Draws image a) (e : Draws image b) where
-  place_moves : (p : ℕ) (rs : List ℕ) (x y : ℕ) → Place a p → Place b p → Chain shape image p rs → a.move p x y ≡ b.move p x y
-  place_moves p rs x y i j c = elim (for_move x y rs) [
-    | inl h ↦ (
-        let same : (f : ℕ → ℕ → ℕ) → f (input_of shape image h.0) (output_of shape image h.0) ≡ f x y = λ f. ap₂ f h.2 h.3 in
-        sym (same (λ u v. a.move p u v)) ∙ d.move p rs h.0 i c h.1 ∙ sym (e.move p rs h.0 j c h.1) ∙ same (λ u v. b.move p u v))
-    | inr h ↦ d.no_move p rs x y i c h ∙ sym (e.no_move p rs x y j c h)
-  ]
-
-  moves_once : (p x y : ℕ) → a.move p x y ≡ b.move p x y
-  moves_once zero x y = s.walks.from_lost x y ∙ sym (t.walks.from_lost x y)
-  moves_once (suc zero) x y = place_moves 1 (1 ∷ 2 ∷ []) x y (leb-true 1 1 refl, omega (arith, d.size)) (leb-true 1 1 refl, omega (arith, e.size)) first_chain
-  moves_once (suc (suc zero)) x y = place_moves 2 (3 ∷ []) x y (leb-true 1 2 refl, omega (arith, d.size)) (leb-true 1 2 refl, omega (arith, e.size)) second_chain
-  moves_once (suc (suc (suc p))) x y = s.sized.past_size _ x y (omega (arith, d.size)) ∙ sym (t.sized.past_size _ x y (omega (arith, e.size)))
-
-  -- the image draws one game
-  draws_once : a ≡ b
-  draws_once = λ i. record {
-    size = (d.size ∙ sym e.size) i;
-    inputs = (d.inputs ∙ sym e.inputs) i;
-    outputs = (d.outputs ∙ sym e.outputs) i;
-    start = (d.start ∙ sym e.start) i;
-    move = λ p x y. moves_once p x y i;
-  }
-
--- which is the one that is drawn of its bytes
+-- the one game that it draws is the one that is drawn of its bytes
 pub image_draws : (a : Arena) → Sound a → Draws image a → a ≡ drawn shape image
-image_draws a s d = draws_once a (drawn shape image) s (drawn_sound shape image) d (drawn_draws image image_formed (leb-true 2 255 refl))
+image_draws a s d = draws_once image image_formed a (drawn shape image) s (drawn_sound shape image) d (drawn_draws image image_formed (leb-true 2 255 refl))

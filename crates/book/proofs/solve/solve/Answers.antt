@@ -8,8 +8,8 @@ use Rattle.arena.proofs.BookLaws.{one_book}
 use Rattle.book.specs.Solving.{short}
 use Rattle.book.proofs.solve.solve.Goals as goal
 
-pub returns-then-book-len : goal.returns-then-book-len
-returns-then-book-len g c = record { cause = short refl (omega arith) (in_time _ (g.G.Game.sound c.args.g.now)) (omega arith); same = refl }
+pub returns-then-book-len-clause-solves : goal.returns-then-book-len-clause-solves
+returns-then-book-len-clause-solves g c = record { cause = short refl (omega arith) (in_time _ (g.G.Game.sound c.args.g.now)) (omega arith); same = refl }
 
 pub returns : goal.returns
 returns g c =

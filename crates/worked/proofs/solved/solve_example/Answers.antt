@@ -23,7 +23,7 @@ returns-in-Paired-clause-examples c = stand
 pub returns-in_ok-read-in-Drawn-clause-works : goal.returns-in_ok-read-in-Drawn-clause-works
 returns-in_ok-read-in-Drawn-clause-works c =
     let d = c.in_ok-read-in-Drawn.field-0 in
-    rw c.in-Drawn.is (drawn_works _ _ _ c.solve.auto.book _ (drawn_sound d.shape d.bytes.now) c.in_ok-read-in-Drawn.ensures.outcome.1 c.solve.ensures)
+    rw c.in-Drawn.is (drawn_works _ _ _ c.solve.auto.book _ (drawn_sound d.shape d.bytes.now) c.in_ok-read-in-Drawn.ensures.outcome.1 c.solve.ensures.solves)
 
 pub returns-in_ok-read-in-Drawn-clause-examples : goal.returns-in_ok-read-in-Drawn-clause-examples
 returns-in_ok-read-in-Drawn-clause-examples c = stand

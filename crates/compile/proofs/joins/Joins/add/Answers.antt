@@ -1,6 +1,7 @@
 use Rattle.std.proofs.Common.{◌*◌, [], ◌∷◌, length, get_or, bit_or, sym, ap, ap₂, ◌∙◌, eqb-true}
+use Rattle.std.proofs.lemmas.List.{nil_from_length}
 use Rattle.rules.specs.Sets.{sets}
-use Rattle.compile.proofs.JoinLaws.{join_one, join_gone}
+use Rattle.compile.proofs.JoinLaws.{join_none, join_one}
 use Rattle.compile.proofs.joins.Joins.add.Goals as goal
 
 pub returns-then-xs-ys-eq1 : goal.returns-then-xs-ys-eq1
@@ -13,4 +14,5 @@ returns-then-xs-ys-eq1 c =
 
 pub returns-then-is_empty : goal.returns-then-is_empty
 returns-then-is_empty c =
-    join_gone c.args.all.now c.args.one.now (ap length (sym c.as_slice-xs.ensures.sets) ∙ eqb-true (length c.as_slice-xs.result.now) 0 (sym c.if-is_empty.ensures))
+    let none = nil_from_length _ (ap length (sym c.as_slice-xs.ensures.sets) ∙ eqb-true (length c.as_slice-xs.result.now) 0 (sym c.if-is_empty.ensures)) in
+    join_none c.args.all.now c.args.one.now (ap (λ l. length l * length c.args.one.now) none) ∙ ap sets (sym none)

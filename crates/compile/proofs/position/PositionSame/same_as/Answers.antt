@@ -1,5 +1,5 @@
 use Rattle.std.proofs.Common.{◌∙◌}
-use Rattle.rules.specs.Explore.{same_list}
+use Rattle.terms.specs.Lists.{same_list}
 use Rattle.compile.specs.Positions.{same_position}
 use Rattle.compile.proofs.PositionLaws.{matched}
 use Rattle.compile.proofs.position.PositionSame.same_as.Goals as goal
