@@ -71,6 +71,8 @@ def walk(signals, game, automaton):
 
 
 def main():
+    if len(sys.argv) != 4:
+        raise SystemExit("usage: bench/agree.py SIGNALS GAME AUTOMATON")
     named, shown, printed = [pathlib.Path(name).read_text() for name in sys.argv[1:]]
     print(walk(ltl.read_signals(named), read_game(shown), Automaton(printed)))
 

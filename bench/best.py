@@ -28,6 +28,8 @@ def best(command, status):
 
 
 def main():
+    if len(sys.argv) < 3 or not sys.argv[1].isdigit():
+        raise SystemExit("usage: bench/best.py STATUS COMMAND..")
     status, *command = sys.argv[1:]
     print(f"{best(command, int(status)) * 1000:.2f}")
 

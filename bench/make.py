@@ -40,6 +40,8 @@ def one():
 
 
 def main():
+    if len(sys.argv) != 2:
+        raise SystemExit("usage: bench/make.py FOLDER")
     folder = pathlib.Path(sys.argv[1])
     (folder / "chain.diagram").write_bytes(chain())
     (folder / "full.diagram").write_bytes(full())

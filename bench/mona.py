@@ -93,6 +93,9 @@ class Sets:
         return f"ex2 {', '.join(self.parts.values())}: {' & '.join(lines)} & 0 in {root}"
 
 
+WAYS = {"places": Places, "sets": Sets}
+
+
 def mona_text(signals, rule, way):
     """What MONA reads."""
     names = [name for side in signals for name in side]
@@ -101,10 +104,12 @@ def mona_text(signals, rule, way):
 
 
 def main():
+    if len(sys.argv) != 4 or sys.argv[1] not in WAYS:
+        raise SystemExit("usage: bench/mona.py places|sets SIGNALS RULE")
     way, named, ruled = sys.argv[1:]
     signals = ltl.read_signals(pathlib.Path(named).read_text())
     rule = ltl.read_rule(pathlib.Path(ruled).read_text(), signals[0] + signals[1])
-    print(mona_text(signals, rule, {"places": Places, "sets": Sets}[way]()), end="")
+    print(mona_text(signals, rule, WAYS[way]()), end="")
 
 
 if __name__ == "__main__":

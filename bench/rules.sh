@@ -1,16 +1,19 @@
 #!/bin/sh
-# Measures compiling and solving of the rules NAME.., else of all in bench/rules, beside MONA on their negations, and prints
-# a table. Each game is compared with MONA's automaton over every row of rounds.
-# The program is crates/playbook/out/playbook, or the one that PLAYBOOK names. Needs mona, python3 and valgrind.
+# Measures compiling and solving of rules beside MONA on their negations, and prints a table. Each game is compared with
+# MONA's automaton over every row of rounds.
+#
+#     bench/rules.sh [NAME..]
+#
+# NAME is a rule of bench/rules by its file; without any, all are measured but `longest`, which is refused.
+# The program is built by tools/product.sh, or is the one that PLAYBOOK names. Needs mona, python3 and valgrind.
 set -eu
 cd "$(dirname "$0")/.."
 out=target/bench/rules
-ours=${PLAYBOOK:-crates/playbook/out/playbook}
 for tool in mona python3 valgrind; do
-    command -v "$tool" >/dev/null || { echo "$tool is missing; on Debian: apt-get install mona python3 valgrind" >&2; exit 1; }
+    command -v "$tool" >/dev/null || { echo "bench/rules.sh: $tool is missing; on Debian: apt-get install mona python3 valgrind" >&2; exit 1; }
 done
 mkdir -p "$out"
-if [ -z "${PLAYBOOK:-}" ]; then (cd crates/playbook && rt run -- solve --diagram data/bench.diagram) >"$out/check.log" || { tail -5 "$out/check.log"; exit 1; }; fi
+ours=$(tools/product.sh program)
 : >"$out/empty.book"
 
 # Prints how many million instructions the program executes, or `-` where a plain run takes a second or more.
@@ -24,7 +27,7 @@ count() { # MILLISECONDS FILE ARGUMENT..
 
 # Prints the row of a rule. Compiling alone is `check` of an empty book, which is refused behind it, with status 1.
 row() { # NAME
-    rule=$(ls bench/rules/*/"$1.rule")
+    rule=$(ls bench/rules/*/"$1.rule" 2>/dev/null) || { echo "bench/rules.sh: no rule of bench/rules is called $1" >&2; exit 1; }
     signals=$(dirname "$rule")/signals
     made=$out/$1
     set -- --rule "$signals" "$rule"

@@ -1,13 +1,18 @@
 #!/bin/sh
 # Counts the instructions that playbook and the plain Rust program execute on the worst diagrams, and prints their ratio; then
 # the time of the slowest pair, and the table of bench/rules.sh.
-# The program is crates/playbook/out/playbook, or the one that PLAYBOOK names. Needs rustc, python3, valgrind and mona.
+#
+#     bench/run.sh
+#
+# The program is built by tools/product.sh, or is the one that PLAYBOOK names. Needs rustc, python3, valgrind and mona.
 set -eu
 cd "$(dirname "$0")/.."
 out=target/bench
-ours=${PLAYBOOK:-crates/playbook/out/playbook}
+for tool in rustc python3 valgrind; do
+    command -v "$tool" >/dev/null || { echo "bench/run.sh: $tool is missing" >&2; exit 1; }
+done
 mkdir -p "$out"
-if [ -z "${PLAYBOOK:-}" ]; then (cd crates/playbook && rt run -- solve --diagram data/bench.diagram) >"$out/check.log" || { tail -5 "$out/check.log"; exit 1; }; fi
+ours=$(tools/product.sh program)
 rustc --edition 2024 -C opt-level=3 -o "$out/plain" bench/plain/plain.rs
 python3 bench/make.py "$out"
 

@@ -1,6 +1,9 @@
 #!/usr/bin/env python3
 """Makes the diagrams of the examples from their readable sources: make.py SOURCE DIAGRAM."""
+import re
 import sys
+
+LINE = re.compile(r"(\w+):([^/]*)/([^>]*)->\s*(\w+)")
 
 
 def read_names(line, word):
@@ -17,7 +20,10 @@ def read_set(words, signals):
     for word in words.split():
         if word == "none":
             continue
-        bit = 1 << signals.index(word.rstrip("?"))
+        name = word.removesuffix("?")
+        if name not in signals:
+            raise SystemExit(f"no signal is called '{name}': they are {' '.join(signals)}")
+        bit = 1 << signals.index(name)
         more = [n | bit for n in numbers]
         numbers = numbers + more if word.endswith("?") else more
     return sorted(numbers)
@@ -27,12 +33,13 @@ def read_moves(lines, inputs, outputs):
     """The positions in the order in which they come first, each with its moves (input, output, name)."""
     moves = {}
     for line in lines:
-        name, rest = line.split(":")
-        turn, destination = rest.split("->")
-        given, answer = turn.split("/")
-        own = moves.setdefault(name.strip(), [])
+        found = LINE.fullmatch(line)
+        if not found:
+            raise SystemExit(f"expected 'POSITION: INPUTS / OUTPUTS -> POSITION', found '{line}'")
+        name, given, answer, destination = found.groups()
+        own = moves.setdefault(name, [])
         for x in read_set(given, inputs):
-            own.extend((x, y, destination.strip()) for y in read_set(answer, outputs))
+            own.extend((x, y, destination) for y in read_set(answer, outputs))
     return moves
 
 
@@ -44,6 +51,9 @@ def diagram(text):
     (start,) = read_names(lines[2], "start")
     moves = read_moves(lines[3:], inputs, outputs)
     number = {name: p for p, name in enumerate(moves, 1)}
+    for name in [start, *(destination for own in moves.values() for *_, destination in own)]:
+        if name not in number:
+            raise SystemExit(f"no line draws a move from '{name}'")
     heads, records = b"", b""
     count = 0
     for own in moves.values():
@@ -57,6 +67,8 @@ def diagram(text):
 
 
 def main():
+    if len(sys.argv) != 3:
+        raise SystemExit("usage: examples/make.py SOURCE DIAGRAM")
     source, target = sys.argv[1:]
     with open(source, encoding="ascii") as f:
         text = f.read()

@@ -1,20 +1,20 @@
 /*
- * Random bytes for every call of the library: fuzz COUNT SEED [DIAGRAM..]
+ * Random bytes for every call of the library: fuzz COUNT SEED [DIAGRAM..]. The diagrams in the files are among the sources.
  *
  * COUNT calls are made on fresh inputs: sources that are well formed, changed a little, or made of any bytes, and books
  * and rows likewise. Of each call it is checked that it returns (an alarm says when not), reads and writes only what it
  * is lent (pages behind each buffer may not be touched, guard bytes stand before it), leaves what it may only read,
- * gives an outcome of the documented range, writes nothing where it refuses and nothing behind what it serves, and does
- * the same when it is called again. What is solved is also accepted, and with a byte changed refused.
+ * gives an outcome of the documented range, writes nothing where it refuses and nothing behind what it serves, and, made
+ * again, does the same. What is solved is also accepted, and with a byte changed refused.
  */
 #include "../bindings/cuzzambra.h"
-#include "arena.h"
+#include "buffer.h"
 #include "make.h"
 #include "prng.h"
 #include <inttypes.h>
 #include <signal.h>
 
-enum { SECONDS = 60, POOL = 64, MOST_SEEDS = 8, MOST_CALLS = 512 };
+enum { SECONDS = 60, POOL = 64, MOST_SEEDS = 8 };
 
 enum entry { SOLVE_RULE, SOLVE_DIAGRAM, ACCEPT_RULE, ACCEPT_DIAGRAM, REPLAY_RULE, REPLAY_DIAGRAM, ENTRIES };
 
@@ -390,8 +390,12 @@ static void try_one(void)
 static void read_seed(const char *file)
 {
     FILE *in = fopen(file, "rb");
-    if (in == NULL || seed_count == MOST_SEEDS) {
+    if (in == NULL) {
         perror(file);
+        exit(2);
+    }
+    if (seed_count == MOST_SEEDS) {
+        fprintf(stderr, "%s: there are more than %d diagrams\n", file, MOST_SEEDS);
         exit(2);
     }
     struct bytes *out = &seeds[seed_count++];
@@ -416,14 +420,25 @@ static void report(void)
     }
 }
 
+static uint64_t read_number(const char *word)
+{
+    char *end;
+    uint64_t number = strtoull(word, &end, 10);
+    if (*word < '0' || *word > '9' || *end != '\0') {
+        fprintf(stderr, "fuzz: %s is no number\n", word);
+        exit(2);
+    }
+    return number;
+}
+
 int main(int argc, char **argv)
 {
     if (argc < 3) {
         fprintf(stderr, "usage: fuzz COUNT SEED [DIAGRAM..]\n");
         return 2;
     }
-    uint64_t count = strtoull(argv[1], NULL, 10);
-    seed = strtoull(argv[2], NULL, 10);
+    uint64_t count = read_number(argv[1]);
+    seed = read_number(argv[2]);
     prng_state = seed;
     for (int k = 3; k < argc; k++) {
         read_seed(argv[k]);

@@ -2,7 +2,7 @@
 """Plants wrong programs, one at a time, and records what refuses each.
 
     planted/run.py [--only WORD] [LAYER..]               asks the prover of the wrong programs of these layers, or of all
-    planted/run.py --run [--jobs N] [--cases N] [..]     asks the comparison and the tests of them
+    planted/run.py --run [--jobs N] [--cases N] [..]     asks the comparison and the tests of those not asked yet
     planted/run.py --table                               writes the tables of docs/PLANTED.md
 
 A wrong program is an edit of one line or a few, planted/LAYER/NAME.edit, in the form of a must-fail edit (`file:`, and then
@@ -24,7 +24,8 @@ import shutil
 import subprocess
 import sys
 import tempfile
-from concurrent.futures import ThreadPoolExecutor
+from concurrent.futures import ThreadPoolExecutor, as_completed
+from itertools import zip_longest
 from pathlib import Path
 
 TOP = Path(__file__).resolve().parent.parent
@@ -66,6 +67,8 @@ LAYERS = {
 }
 # Crates whose own tests see more of them than the tests of `cases` do.
 TESTED = ("words", "reader")
+# Crates that the program does not reach: a library is built of proved sources alone, so it is not compared here.
+UNREACHED = ("calls", "cuzzambra")
 LINKER = """#!/bin/sh
 {kit}/toolchain/bin/ld.lld "$@" || exit $?
 /bin/cp program {room}/linked && /bin/mv {room}/linked {room}/program
@@ -189,8 +192,8 @@ def compared(tree, kit, cases):
     if not program.exists():
         return f"NOT BUILT {tail(ran.stderr)}"
     words = [TOP / "reference" / "target" / "release" / "reference", "compare", "--seed", "1", "--cases", str(cases)]
-    ran = subprocess.run([*words, "--jobs", "1", "--program", program], capture_output=True, text=True, errors="replace",
-                         env={**os.environ, "TMPDIR": str(kit)})
+    ran = subprocess.run(["timeout", "900", *words, "--jobs", "1", "--program", program], capture_output=True, text=True,
+                         errors="replace", env={**os.environ, "TMPDIR": str(kit)})
     program.unlink()
     return "" if ran.returncode == 0 else "comparison"
 
@@ -236,12 +239,23 @@ def ask_prover(edits):
             record(edit, 0, said[edit.name])
 
 
+def not_asked(edits):
+    """Those that only the prover was asked of: the first of each layer, the second of each, and so on."""
+    left = {}
+    for edit in edits:
+        if rows_of(edit.layer).get(edit.name, ["-", "-"])[1] == "-" and edit.crate not in UNREACHED:
+            left.setdefault(edit.layer, []).append(edit)
+    rows = zip_longest(*left.values())
+    return [edit for row in rows for edit in row if edit]
+
+
 def ask_others(edits, jobs, cases):
     subprocess.run(["cargo", "build", "--quiet", "--release", "--offline", "--manifest-path",
                     TOP / "reference" / "Cargo.toml"], check=True)
     with ThreadPoolExecutor(jobs) as pool:
-        for edit, found in zip(edits, pool.map(lambda it: found_otherwise(it, cases), edits)):
-            record(edit, 1, found)
+        asked = {pool.submit(found_otherwise, edit, cases): edit for edit in edits}
+        for done in as_completed(asked):
+            record(asked[done], 1, done.result())
 
 
 def table(layer):
@@ -277,7 +291,7 @@ def main():
     if arguments.table:
         written()
     elif arguments.run:
-        ask_others(edits, arguments.jobs, arguments.cases)
+        ask_others(not_asked(edits), arguments.jobs, arguments.cases)
     else:
         ask_prover(edits)
 

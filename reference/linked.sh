@@ -3,17 +3,18 @@
 #
 #     reference/linked.sh [CASES [SEED]]
 #
-# The library is crates/cuzzambra/out/libcuzzambra.a, made by `rt lib` where it is missing, or the one in the folder that
-# LIBRARY names. JOBS names how many run at a time.
+# The library is built by tools/product.sh, or stands in the folder that LIBRARY names. JOBS names how many cases run at a
+# time.
 set -eu
 cd "$(dirname "$0")/.."
 cases=${1:-1000000}
 seed=${2:-1}
-library=${LIBRARY:-$PWD/crates/cuzzambra/out}
-[ -d /dev/shm ] && export TMPDIR=/dev/shm
-if [ ! -e "$library/libcuzzambra.a" ]; then
-    (cd crates/cuzzambra && rt lib >/dev/null)
+if [ -z "${LIBRARY:-}" ]; then
+    library=$(tools/product.sh library)
+    LIBRARY=$(dirname "$library")
 fi
-RUSTFLAGS="-L native=$library" cargo build --quiet --release --offline --features library \
-    --manifest-path reference/Cargo.toml --target-dir reference/target/linked
+export LIBRARY
+[ -d /dev/shm ] && export TMPDIR=/dev/shm
+cargo build --quiet --release --offline --features library --manifest-path reference/Cargo.toml \
+    --target-dir reference/target/linked
 exec reference/target/linked/release/reference compare-library --seed "$seed" --cases "$cases" --jobs "${JOBS:-3}"

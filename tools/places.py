@@ -1,7 +1,7 @@
 #!/usr/bin/env python3
 """Lists, point by point, the places in crates/*/src where an older form may stand.
 
-usage: tools/places.py [POINT..]     run at the top of a checkout; without POINT all eight
+usage: tools/places.py [POINT..]     run at the top of a checkout; POINT is a number from 1 to 8; without any, all eight
 
 A line is a place to look at, and no verdict: docs/DESIGN-PASS.md says of each what was done.
 """
@@ -12,6 +12,8 @@ import sys
 
 FILES = sorted(glob.glob("crates/*/src/**/*.rt", recursive=True))
 TEXTS = {f: open(f).read() for f in FILES}
+if not FILES:
+    raise SystemExit("tools/places.py: there is no crates/*/src here: run it at the top of a checkout")
 
 
 def code_lines():
@@ -182,6 +184,9 @@ def proofs():
 
 POINTS = [option_shapes, twins, index_loops, by_hand, facts, buffers, switches, proofs]
 
+for word in sys.argv[1:]:
+    if word not in "12345678" or len(word) != 1:
+        raise SystemExit(f"tools/places.py: {word} is no point: they are numbered from 1 to 8")
 for k, point in enumerate(POINTS, 1):
     if sys.argv[1:] and str(k) not in sys.argv[1:]:
         continue

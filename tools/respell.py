@@ -125,6 +125,8 @@ def turned(text, new, path):
 def main(argv):
     root = "."
     global CRATES
+    if not os.path.isdir("crates"):
+        raise SystemExit("tools/respell.py: there is no crates/ here: run it at the top of the repository")
     CRATES = {c for c in os.listdir("crates") if os.path.isdir(os.path.join("crates", c, "src"))}
     found, kept = declared(root)
     new = {}

@@ -69,6 +69,7 @@ mod tests {
                 verdicts(&sources, &paired, &mut random, &mut report).unwrap();
             }
         }
-        assert!(report.print().lines().count() == 3);
+        // Clauses, controllers and verdicts all came about.
+        assert_eq!(report.print().lines().count(), 3);
     }
 }

@@ -34,8 +34,10 @@ mod words;
 use compare::{compare, Plan};
 use std::process::ExitCode;
 
-const USAGE: &str =
-    "compare|compare-library [--seed N] [--first K] [--cases M] [--jobs J] [--program FILE] [--folder FOLDER]";
+const USAGE: &str = "\
+usage: reference compare [--seed N] [--first K] [--cases M] [--jobs J] [--folder FOLDER] [--program FILE]
+       reference compare-library [--seed N] [--first K] [--cases M] [--jobs J] [--folder FOLDER]
+compare-library is there where the reference is built by linked.sh";
 
 fn main() -> ExitCode {
     let args: Vec<String> = std::env::args().skip(1).collect();
@@ -64,7 +66,7 @@ fn plan(args: &[String]) -> Option<Plan> {
         match name.as_str() {
             "--seed" => plan.seed = value.parse().ok()?,
             "--first" => plan.first = value.parse().ok()?,
-            "--cases" => plan.cases = value.parse().ok()?,
+            "--cases" => plan.cases = value.parse().ok().filter(|cases| *cases > 0)?,
             "--jobs" => plan.jobs = value.parse().ok().filter(|jobs| *jobs > 0)?,
             "--program" => plan.program = value.into(),
             "--folder" => plan.folder = value.into(),

@@ -1,10 +1,10 @@
 -- The game that a well-formed image draws is what its chains say.
-use Rattle.std.proofs.Common.{◌≡◌, ℕ, zero, suc, ◌+◌, ◌-◌, ◌≤◌, true, false, cond, leb, List, [], ◌∷◌, ◌++◌, length, sym, refl, ap, ◌∙◌, subst, inl, inr, arith}
+use Rattle.std.proofs.Common.{◌≡◌, ℕ, zero, suc, ◌+◌, ◌-◌, ◌≤◌, true, false, cond, leb, List, [], ◌∷◌, ◌++◌, length, ◌≢◌, ◌⊎◌, sym, refl, ap, ap₂, ◌∙◌, subst, inl, inr, arith}
 use Rattle.std.proofs.lemmas.List.{length-append}
 use Rattle.std.proofs.lemmas.Bool.Decides.{nat_tests}
-use Rattle.std.proofs.lemmas.Bool.{le-leb, cond-true, cond-false, cond_both}
+use Rattle.std.proofs.lemmas.Bool.{cases_lt, cases_eq, le-leb, cond-true, cond-false, cond_both}
 use Rattle.terms.specs.declared.shape.Shape.{Shape}
-use Rattle.arena.specs.Arena.{beyond}
+use Rattle.arena.specs.Arena.{Arena, Place, Sound, beyond}
 use Rattle.arena.specs.Diagram.{shape_of, head_at, next_at, input_of, output_of, destination_of, Record, Headed, Path, Chain, In, Distinct, Unrepeated, WellFormed, Draws, sought, drawable, told, drawn}
 use Rattle.terms.specs.Bytes.{word}
 use Rattle.arena.proofs.RangeLaws.{range_within}
@@ -113,7 +113,7 @@ drawn_draws bs w small =
 
 module _ (h : Shape) (bs : List ℕ) (x y : ℕ) where
   -- the record is not for x and y
-  Else : ℕ → Type 0
+  abbrev Else : ℕ → Type 0
   Else r = input_of h bs r ≡ x → output_of h bs r ≢ y
 
   -- one of these records is for x and y, or none is
@@ -123,7 +123,7 @@ module _ (h : Shape) (bs : List ℕ) (x y : ℕ) where
     where
       later : ((r : ℕ) × In r rs × For h bs x y r) ⊎ ((r : ℕ) → In r rs → Else r) → Else q → ((r : ℕ) × In r (q ∷ rs) × For h bs x y r) ⊎ ((r : ℕ) → In r (q ∷ rs) → Else r)
       later (inl f) n = inl (f.0, inr f.1, f.2)
-      later (inr f) n = inr (λ r i. elim i [ inl same ↦ subst Else same n | inr j ↦ f r j ])
+      later (inr f) n = inr (λ r i. elim i [ inl same ↦ subst Else (sym same) n | inr j ↦ f r j ])
 
       go : (input_of h bs q ≡ x) ⊎ (input_of h bs q ≢ x) → (output_of h bs q ≡ y) ⊎ (output_of h bs q ≢ y)
           → ((r : ℕ) × In r rs × For h bs x y r) ⊎ ((r : ℕ) → In r rs → Else r)
@@ -151,11 +151,11 @@ module _ (bs : List ℕ) (w : WellFormed bs) (a b : Arena) (s : Sound a) (t : So
 
   moves_once : (p x y : ℕ) → a.move p x y ≡ b.move p x y
   moves_once zero x y = s.walks.from_lost x y ∙ sym (t.walks.from_lost x y)
-  moves_once (suc p) x y = elim (cases_le (suc p) (shape_of bs).size) [
-    | inl l ↦ (
+  moves_once (suc p) x y = elim (cases_lt (shape_of bs).size (suc p)) [
+    | inl g ↦ s.sized.past_size _ x y (omega (arith, d.size)) ∙ sym (t.sized.past_size _ x y (omega (arith, e.size)))
+    | inr l ↦ (
         let c = chain_at bs w (suc p) (omega arith) l in
         chain_moves (suc p) c.0 x y (omega arith, omega (arith, d.size)) (omega arith, omega (arith, e.size)) c.1)
-    | inr g ↦ s.sized.past_size _ x y (omega (arith, d.size)) ∙ sym (t.sized.past_size _ x y (omega (arith, e.size)))
   ]
 
   -- a well-formed image draws one game

@@ -20,7 +20,7 @@ pub(crate) fn header_of<G: Game>(g: &G) -> [u8; 8]
 }
 
 // A record's first eight bytes for a count and a spoiling input.
-// Kept: 1 and 2 are the bytes that a book has for unlimited and limited; here and in `told` alone they are read.
+// Kept: 1 and 2 are the bytes that a book has for unlimited and limited; `told` and the questions of a run read them.
 pub(crate) fn front_of(count: Count, spoiling: Option<u8>) -> [u8; 8]
     ensures { result ≡ front count spoiling }
 {

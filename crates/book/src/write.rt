@@ -49,7 +49,7 @@ impl<G: Game> Solution<'_, G> {
     {
         book[..8].copy_from_slice(&header_of(self.game));
 
-        // Kept: the 24 bytes in the middle of the book are lent to the writer of a record, as the project asks.
+        // Kept: the 24 bytes in the middle of the book are lent to the writer of a record, which so knows nothing of the rest.
         for p in 1..=self.game.size() {
             let at = entry_at(p);
             self.write_record(p, &mut book[at..at + 24]);

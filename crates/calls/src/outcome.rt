@@ -6,7 +6,7 @@ use reader::texts::{Misread, Text};
 use terms::refusal::{Layer, Refusal};
 
 // Served: all numbers are 0 but the length, that of the book or the number of answers. Refused: the refusal's number in
-// the manual's table, its layer and its place, and the text that has the place; the length is 0.
+// the table of docs/REFUSALS.md, its layer and its place, and the text that has the place; the length is 0.
 #[repr(C)]
 #[derive(Clone, Copy)]
 pub struct Outcome {

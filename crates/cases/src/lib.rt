@@ -229,7 +229,7 @@ mod tests {
         }
     }
 
-    // What a call was told: the number of its refusal, or 100 and an output, or 0.
+    // What a call was told: the number of its refusal, 100 and an output, 99 where it is not allowed, or else 0.
     fn told(step: &Step) -> u8 {
         match step.reply {
             Reply::Refused(refusal) => refusal.number(),

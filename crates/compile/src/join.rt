@@ -68,7 +68,7 @@ fn put_both(xs: &[u32], ys: &[u32], out: &mut [u32])
     back.copy_from_slice(ys);
 }
 
-// Every set of the two lists.
+// The "or": every set of the two lists, containing ones dropped; none where more than 32 are left.
 pub(crate) fn either(a: &DutyList, b: &DutyList) -> Option<DutyList>
     ensures { Gives result (join_or (sets a.now) (sets b.now)) }
 {
@@ -80,7 +80,8 @@ pub(crate) fn either(a: &DutyList, b: &DutyList) -> Option<DutyList>
     trimmed(gathered)
 }
 
-// Every union of one set from each, gathered in `room`.
+// The "and", gathered in `room`: every union of one set from each, containing ones dropped; none where more than 32 are
+// left.
 fn both_in(xs: &[u32], ys: &[u32], room: &mut [u32]) -> Option<DutyList>
     requires { length xs.now * length ys.now ≤ length room.old }
     ensures { Gives result (join_and (sets xs.now) (sets ys.now)) }
@@ -90,7 +91,7 @@ fn both_in(xs: &[u32], ys: &[u32], room: &mut [u32]) -> Option<DutyList>
     trimmed(gathered)
 }
 
-// Every union of one set from each.
+// The "and": every union of one set from each, containing ones dropped; none where more than 32 are left.
 // Kept: the cases tell lists apart by their lengths, as most lists have one set or none and need no sorting; and of the
 // others most are short, and clearing the long room costs more than the join.
 pub(crate) fn both(a: &DutyList, b: &DutyList) -> Option<DutyList>

@@ -69,7 +69,7 @@ impl Joins {
         }
     }
 
-    // Every union of one set from each. A long join is made once while it is kept; a short one takes no longer than to
+    // The "and" of two lists. A long join is made once while it is kept; a short one takes no longer than to
     // look for it.
     pub(crate) fn both(&mut self, a: &DutyList, b: &DutyList) -> Option<DutyList>
         ensures { Gives result (join_and (sets a.now) (sets b.now)) }

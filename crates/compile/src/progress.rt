@@ -84,7 +84,7 @@ impl<'p> Progress<'p> {
     }
 
     // The list of part `k`, made once.
-    // Kept: four calls ask that k is a part; a type for numbers of parts would be taken apart at each use.
+    // Kept: five calls ask that k is a part; a type for numbers of parts would be taken apart at each use.
     // Kept: `part_after` is its twin, but one function of both would borrow a memory and all of `self` at once.
     #[cycle(expanded_list_of)]
     pub(crate) fn list_of(&mut self, joins: &mut Joins, k: usize) -> Option<DutyList>

@@ -3,9 +3,9 @@ use crate::args::{Command, Sources, Task, parse};
 use crate::explain::explain;
 use crate::fault::Fault;
 use crate::graph::draw;
-use crate::moves::Turn;
+use crate::headline::Headline;
+use crate::moves::MovesUnder;
 use crate::names::GivenNames;
-use crate::outline::Outline;
 use crate::parts::show_parts;
 use crate::play::play;
 use crate::rounds::Scene;
@@ -145,13 +145,13 @@ fn solve_game<'a, G: Game>(
 ) -> Result<(), Fault<'a>> {
     let book = solved(rt, game)?;
     let length = book.len();
-    let outline = Outline::of(game);
+    let headline = Headline::of(game);
     let table = Table {
         book: book.as_slice(),
         size: game.size(),
         inputs: input_count(game),
     };
-    println!(rt; "{outline}\n{table}book: {length} bytes")?;
+    println!(rt; "{headline}\n{table}book: {length} bytes")?;
     let Some(file) = file else {
         return Ok(());
     };
@@ -160,12 +160,12 @@ fn solve_game<'a, G: Game>(
 
 // Prints the game's moves.
 fn show_game<'a, G: Game>(rt: &HostRuntime, game: &G) -> Result<(), Fault<'a>> {
-    let outline = Outline::of(game);
-    if outline.size == 0 {
+    let headline = Headline::of(game);
+    if headline.size == 0 {
         return Err(Fault::from(Refusal::SizeZero));
     }
-    println!(rt; "{outline}")?;
-    for position in 1..=outline.size {
+    println!(rt; "{headline}")?;
+    for position in 1..=headline.size {
         show_position(rt, game, position)?;
     }
     Ok(())
@@ -174,12 +174,12 @@ fn show_game<'a, G: Game>(rt: &HostRuntime, game: &G) -> Result<(), Fault<'a>> {
 fn show_position<'a, G: Game>(rt: &HostRuntime, game: &G, position: u8) -> Result<(), Fault<'a>> {
     println!(rt; "position {position}")?;
     for input in 0..input_count(game) {
-        let turn = Turn {
+        let moves = MovesUnder {
             game,
             position,
             input,
         };
-        println!(rt; "  input {input}: {turn}")?;
+        println!(rt; "  input {input}: {moves}")?;
     }
     Ok(())
 }

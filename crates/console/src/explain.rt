@@ -1,6 +1,6 @@
 // How a game is lost soonest, told round by round.
 use crate::fault::Fault;
-use crate::outline::Outline;
+use crate::headline::Headline;
 use crate::phrases::{Left, Several};
 use crate::rounds::{Round, Scene, answered};
 use book::told::{count_told, spoiling_told};
@@ -13,9 +13,9 @@ pub(crate) fn explain<'a, G: Game>(
     rt: &HostRuntime,
     scene: &Scene<'_, '_, G>,
 ) -> Result<(), Fault<'a>> {
-    let outline = Outline::of(scene.play.game);
-    let start = outline.start;
-    println!(rt; "{outline}")?;
+    let headline = Headline::of(scene.play.game);
+    let start = headline.start;
+    println!(rt; "{headline}")?;
     match count_told(scene.play.book, start) {
         Count::Limited(n) => tell_loss(rt, scene, start, n),
         _ => tell_rounds(rt, scene, start),

@@ -1,7 +1,7 @@
 // A solved game as a graph, for Graphviz.
 use crate::edges::{Arrow, Edge, KINDS, Key, Kind, Move};
 use crate::fault::Fault;
-use crate::outline::Outline;
+use crate::headline::Headline;
 use crate::phrases::Left;
 use crate::rounds::{Round, Scene};
 use book::told::{answer_told, count_told, spoiling_told};
@@ -28,12 +28,12 @@ pub(crate) fn draw<'a, G: Game>(
     scene: &Scene<'_, '_, G>,
 ) -> Result<(), Fault<'a>> {
     let game = scene.play.game;
-    let outline = Outline::of(game);
-    let start = outline.start;
+    let headline = Headline::of(game);
+    let start = headline.start;
     println!(rt;
-        "digraph game {{\n{DEFAULTS}\n  label=\"{outline}\\n{CAPTION}\"\n  start -> {start}"
+        "digraph game {{\n{DEFAULTS}\n  label=\"{headline}\\n{CAPTION}\"\n  start -> {start}"
     )?;
-    draw_positions(rt, scene.play.book, outline.size)?;
+    draw_positions(rt, scene.play.book, headline.size)?;
     let edges = edges_of(rt, scene)?;
     if edges.iter().any(|edge| edge.to == 0) {
         println!(rt; "  lost [fillcolor=\"#525252\", fontcolor=white]")?;

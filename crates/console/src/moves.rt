@@ -4,13 +4,13 @@ use std::fmt;
 
 // What the outputs do at a position under an input.
 #[derive(Drop)]
-pub struct Turn<'a, G> {
+pub struct MovesUnder<'a, G> {
     pub game: &'a G,
     pub position: u8,
     pub input: u8,
 }
 
-impl<G: Game> fmt::Display for Turn<'_, G> {
+impl<G: Game> fmt::Display for MovesUnder<'_, G> {
     fn fmt<W: fmt::Write>(&self, f: &mut fmt::Formatter<W>) -> fmt::Result {
         for output in 0..output_count(self.game) {
             if output > 0 {

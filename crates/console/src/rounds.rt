@@ -1,4 +1,4 @@
-// Rounds by a game's book, and what tells of them.
+// A game with its book, its rounds, and how they are written.
 ghost use Rattle.std.specs.Prelude.{◌≡◌};
 ghost use Rattle.book.specs.Told.{answer_told};
 

@@ -1,4 +1,4 @@
-// Games from where they are kept.
+// The sources that the command line names, read, and their games.
 use crate::args::{RuleFiles, Source, Sources};
 use crate::fault::Fault;
 use crate::names::{GivenNames, Names};

@@ -13,7 +13,7 @@ pub struct MoveTable<'a, G: Game> {
 }
 
 impl<'a, G: Game> MoveTable<'a, G> {
-    // Asks a game for each of its moves, and those alone of positions that it has.
+    // Asks a game once for each move from its positions, and from 0, which is lost; no other move leads anywhere.
     pub fn of(game: &'a G) -> MoveTable<'a, G>
         ensures game { result.game.now ≡ game.now }
         ensures means { ⟦<MoveTable<'a, G> as Game>⟧.meaning result ≡ G.meaning game.now }

@@ -31,7 +31,7 @@ pub struct Found {
     pub at: usize,
 }
 
-// A word that is not allowed where it stands.
+// The refusal of a word that is not allowed where it stands.
 fn refuse(t: Token<'_>) -> Refusal
     ensures { Refuses t.entry.word t.entry.at result }
 {

@@ -69,7 +69,7 @@ pub fn read_rule(
     parts: &mut [Part],
 ) -> Result<Reading, Refusal>
     ensures short { length parts.old < 64 → result ≡ Err_of store_too_short }
-    ensures kept { length parts.old < 64 → parts.new ≡ parts.old }
+    ensures same { length parts.old < 64 → parts.new ≡ parts.old }
     ensures reads { 64 ≤ length parts.old → ReadRule (known names.now signals.inputs signals.outputs) text.now parts.new result }
 {
     if parts.len() < MOST_PARTS {

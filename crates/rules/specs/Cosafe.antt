@@ -4,6 +4,7 @@ use Rattle.arena.specs.Tally.{Played}
 use Rattle.rules.specs.declared.part.Signal.{Signal}
 use Rattle.rules.specs.Rule.{Rule, always, never, literal, next, release, both, either, agrees, round}
 
+-- formulas with X and until and without release: what negations of rules are
 pub data Cosafe : Type 0 where
   top : Cosafe
   bottom : Cosafe

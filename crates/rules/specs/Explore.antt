@@ -17,6 +17,7 @@ pub data Compiled : Type 0 where
   too_many : Compiled
   positions : List (List ℕ) → Compiled
 
+-- whether a list is one of these
 abbrev pub among : List (List ℕ) → List ℕ → Bool
 among [] s = false
 among (t ∷ ts) s = same_list t s || among ts s
@@ -40,11 +41,12 @@ abbrev pub numbers : ℕ → ℕ → List ℕ
 numbers zero k = []
 numbers (suc n) k = k ∷ numbers n (suc k)
 
--- every round of i inputs and o outputs: inputs ascending, outputs ascending
+-- the rounds of these inputs and outputs: inputs in turn, and outputs in turn under each
 abbrev pub with_inputs : List ℕ → List ℕ → List Played
 with_inputs [] ys = []
 with_inputs (x ∷ xs) ys = map (λ y. record { input = x; output = y }) ys ++ with_inputs xs ys
 
+-- every round of i input and o output signals: inputs ascending, outputs ascending
 abbrev pub rounds : ℕ → ℕ → List Played
 rounds i o = with_inputs (numbers (2 ^ i) 0) (numbers (2 ^ o) 0)
 
@@ -63,11 +65,13 @@ explore (suc n) ps rs p (wide_at q) = wide_at q
 explore (suc n) ps rs p too_many = too_many
 explore (suc n) ps rs p (positions known) = turn (positions known) (λ s. explore n ps rs (suc p) (fold (move ps (suc p) s) (positions known) rs)) (drop p known)
 
+-- the list of the rule itself, unless it is too wide or lost
 abbrev pub start : Sets → Compiled
 start too_wide = wide_at 0
 start (sets []) = lost_start
 start (sets (x ∷ xs)) = positions ((x ∷ xs) ∷ [])
 
+-- the lists that exploring finds from that of the rule itself, unless it has more than 64 parts or 32 duties
 unfoldable pub compiled : ℕ → ℕ → Rule → Compiled
 unfolding explore parts_on duty_number list_in
 compiled i o f =
@@ -83,6 +87,7 @@ lists (wide_at p) = []
 lists too_many = []
 lists (positions known) = known
 
+-- how many positions there are
 abbrev pub size : Compiled → ℕ
 size e = length (lists e)
 
@@ -90,6 +95,7 @@ size e = length (lists e)
 abbrev pub InRange : ℕ → ℕ → Played → Type 0
 InRange i o r = (r.input < 2 ^ i) × (r.output < 2 ^ o)
 
+-- so are those of all rounds
 abbrev pub AllInRange : ℕ → ℕ → List Played → Type 0
 AllInRange i o [] = Unit {0}
 AllInRange i o (r ∷ rs) = InRange i o r × AllInRange i o rs

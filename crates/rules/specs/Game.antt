@@ -28,6 +28,7 @@ rule_move i o ps known zero x y = 0
 rule_move i o ps known (suc q) x y =
     cond (nat_lt x (2 ^ i) && nat_lt y (2 ^ o)) (position known (list_after ps (record { input = x; output = y }) (sets (slice_index_or known q [])))) 0
 
+-- the arena whose positions are the lists found; of size 0 where there are none
 unfoldable pub game : ℕ → ℕ → Rule → Arena
 unfolding compiled rule_move
 game i o f =

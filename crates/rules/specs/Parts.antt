@@ -8,6 +8,7 @@ use Rattle.rules.specs.Rule.{Rule, always, never, literal, next, release, both, 
 abbrev pub part : List Part → ℕ → Part
 part ps k = slice_index_or ps k True
 
+-- the sides of part k have smaller numbers
 abbrev pub Falls : ℕ → Part → Type 0
 Falls k True = Unit {0}
 Falls k False = Unit {0}
@@ -17,6 +18,7 @@ Falls k (Release a b) = (a < k) × (b < k)
 Falls k (Both f g) = (f < k) × (g < k)
 Falls k (Either f g) = (f < k) × (g < k)
 
+-- literals, X parts and R parts are duties
 abbrev pub is_duty : Part → Bool
 is_duty True = false
 is_duty False = false

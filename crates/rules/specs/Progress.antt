@@ -33,6 +33,7 @@ unfolding join_or join_and duty_number
 list_in zero ps k = of_true
 list_in (suc n) ps k = list_from (list_in n ps) (duty_number ps k) (part ps k)
 
+-- the list of part k
 abbrev pub list_of : List Part → ℕ → Sets
 list_of ps k = list_in (suc k) ps k
 
@@ -51,6 +52,7 @@ unfolding list_in join_or join_and duty_number
 after_in zero ps r k = of_true
 after_in (suc n) ps r k = after_from (list_in n ps) (after_in n ps r) r (duty_number ps k) (part ps k)
 
+-- the list of part k after a round
 abbrev pub part_after : List Part → Played → ℕ → Sets
 part_after ps r k = after_in (suc k) ps r k
 

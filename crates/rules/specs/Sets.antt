@@ -57,6 +57,7 @@ pub data Sets : Type 0 where
   too_wide : Sets
   sets : List ℕ → Sets
 
+-- more than 32 sets are too wide
 abbrev pub fit : List ℕ → Sets
 fit xs = cond (nat_le (length xs) 32) (sets xs) too_wide
 

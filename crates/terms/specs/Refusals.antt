@@ -5,7 +5,7 @@ use Rattle.terms.specs.declared.refusal.Refusal.TheVariants.{TextTooLong, Strang
 use Rattle.terms.specs.declared.refusal.Layer.{Layer}
 use Rattle.terms.specs.declared.refusal.Layer.TheVariants.{Text, Signals, Rule, Compile, Store, Diagram, Game, Run, Solve}
 
--- the number in the manual's table; a number that stands for no case is not in use
+-- the number in the table of docs/REFUSALS.md; a number that stands for no case is not in use
 abbrev pub number : Refusal → ℕ
 number TextTooLong = 1
 number (StrangeByte k) = 2

@@ -14,7 +14,7 @@ pub enum Refusal {
     StrangeByte(usize),
     #[error("this word is not allowed here, or the text ends too early")]
     Misplaced(usize),
-    #[error("the name is longer than eight letters, or is there already")]
+    #[error("the name is longer than eight letters and digits, or is there already")]
     BadName(usize),
     #[error("no signal has this name")]
     UnknownName(usize),
@@ -85,7 +85,7 @@ impl fmt::Display for Layer {
 }
 
 impl Refusal {
-    // The number in the manual's table.
+    // The number in the table of docs/REFUSALS.md.
     pub fn number(&self) -> u8
         ensures { result ≡ number self.now }
     {

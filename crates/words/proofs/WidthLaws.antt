@@ -1,5 +1,5 @@
 -- A word takes as many bytes as what it says is wide.
-use Rattle.std.specs.Prelude.{◌≡◌, ℕ, Bool, true, false, cond, List, [], ◌∷◌, length, ◌==◌, refl}
+use Rattle.std.specs.Prelude.{◌≡◌, ℕ, Bool, true, false, cond, List, [], ◌∷◌, length, Some, Option, ◌==◌, refl}
 use Rattle.std.proofs.Common.{sym, ap, ◌∙◌}
 use Rattle.std.proofs.lemmas.Bool.{cond_both}
 use Rattle.terms.specs.Lists.{same_list}
@@ -27,3 +27,10 @@ width_mark b =
     either : (c : Bool) (s t : Said) → width s ≡ 1 → width t ≡ 1 → width (cond c s t) ≡ 1
     either true s t e f = e
     either false s t e f = f
+
+-- what a word that says a run, or a mark, takes
+pub run_width : {v : Option Said} (r : List ℕ) {s : Said} → v ≡ Some (spelled r) → v ≡ Some s → width s ≡ length r
+run_width r {s} a b = let e : spelled r ≡ s = cc in ap width (sym e) ∙ width_spelled r
+
+pub mark_width : {v : Option Said} (b : ℕ) {s : Said} → v ≡ Some (mark b) → v ≡ Some s → width s ≡ 1
+mark_width b {s} a c = let e : mark b ≡ s = cc in ap width (sym e) ∙ width_mark b

@@ -27,7 +27,7 @@ impl Signals {
     }
 }
 
-// Which part of a signals text comes next.
+// Where the reader stands: before `in`, among the inputs, or among the outputs.
 #[derive(Clone, Copy, Default)]
 enum Stage {
     #[default]

@@ -11,8 +11,8 @@ use Rattle.book.proofs.solve.solve.Goals as goal
 pub returns-then-book-len-clause-solves : goal.returns-then-book-len-clause-solves
 returns-then-book-len-clause-solves g c = record { cause = short refl (omega arith) (in_time _ (g.G.Game.sound c.args.g.now)) (omega arith); same = refl }
 
-pub returns : goal.returns
-returns g c =
+pub returns-clause-solves : goal.returns-clause-solves
+returns-clause-solves g c =
     let a = g.G.Game.meaning c.args.g.now in
     let sound = g.G.Game.sound c.args.g.now in
     let bytes = c.write_book.new.book in
@@ -31,3 +31,16 @@ returns g c =
       held = held_right a sound;
       rest = drop_at bytes rest len long;
     }
+
+-- no game needs a 257th sweep
+pub returns-then-size-eq0-clause-in_time : goal.returns-then-size-eq0-clause-in_time
+returns-then-size-eq0-clause-in_time g c = in_time _ (g.G.Game.sound c.args.g.now)
+
+pub returns-in_err-solution-clause-in_time : goal.returns-in_err-solution-clause-in_time
+returns-in_err-solution-clause-in_time g c = in_time _ (g.G.Game.sound c.args.g.now)
+
+pub returns-then-book-len-clause-in_time : goal.returns-then-book-len-clause-in_time
+returns-then-book-len-clause-in_time g c = in_time _ (g.G.Game.sound c.args.g.now)
+
+pub returns-clause-in_time : goal.returns-clause-in_time
+returns-clause-in_time g c = in_time _ (g.G.Game.sound c.args.g.now)

@@ -1,4 +1,4 @@
-use Rattle.std.proofs.Common.{◌*◌, [], ◌∷◌, length, get_or, bit_or, sym, ap, ap₂, ◌∙◌, eqb-true}
+use Rattle.std.proofs.Common.{◌*◌, [], ◌∷◌, length, get_or, bit_or, sym, ap, ap₂, ◌∙◌, zero-mul, eqb-true}
 use Rattle.std.proofs.lemmas.List.{nil_from_length}
 use Rattle.rules.specs.Sets.{sets}
 use Rattle.compile.proofs.JoinLaws.{join_none, join_one}
@@ -15,4 +15,4 @@ returns-then-xs-ys-eq1 c =
 pub returns-then-is_empty : goal.returns-then-is_empty
 returns-then-is_empty c =
     let none = nil_from_length _ (ap length (sym c.as_slice-xs.ensures.sets) ∙ eqb-true (length c.as_slice-xs.result.now) 0 (sym c.if-is_empty.ensures)) in
-    join_none c.args.all.now c.args.one.now (ap (λ l. length l * length c.args.one.now) none) ∙ ap sets (sym none)
+    join_none c.args.all.now c.args.one.now (ap (λ l. length l * length c.args.one.now) none ∙ zero-mul (length c.args.one.now)) ∙ ap sets (sym none)

@@ -2,8 +2,8 @@
  * Buffers whose last byte stands before a page that may not be touched, so that one byte read or written behind is a
  * crash; what stands before the first byte is checked for writes.
  */
-#ifndef ARENA_H
-#define ARENA_H
+#ifndef BUFFER_H
+#define BUFFER_H
 
 #include <stdint.h>
 #include <stdio.h>
