@@ -125,7 +125,7 @@ def place_of(said, crate):
     """The function whose fact was refused, and the fact, from the prover's first line."""
     fact = re.search(r"`([\w-]+)`", said)
     fact = f" `{fact[1]}`" if fact else ""
-    proof = re.search(r"proofs/([\w/]+)/\w+\.antt", said)
+    proof = re.search(r"proofs/([\w/]+?)(?:/\+\w+)?/\w+\.antt", said)
     if proof:
         return f"{proof[1].replace('/', '::')}{fact}"
     source = re.search(r"(src/[\w/]+\.rt):(\d+)", said)
