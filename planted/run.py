@@ -132,7 +132,10 @@ def place_of(said, crate):
     if not source:
         return said[:80]
     lines = (TOP / "crates" / crate / source[1]).read_text().splitlines()
-    above = (re.search(r"\bfn (\w+)", it) for it in reversed(lines[: int(source[2])]))
+    at = int(source[2])
+    while lines[at - 1].lstrip().startswith("#["):
+        at += 1
+    above = (re.search(r"\bfn (\w+)", it) for it in reversed(lines[:at]))
     name = next((it[1] for it in above if it), "?")
     return f"{source[1].removeprefix('src/').removesuffix('.rt')}::{name}{fact}"
 
