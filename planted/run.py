@@ -122,21 +122,18 @@ def copied(to):
 
 
 def place_of(said, crate):
-    """The function whose fact was refused, and the fact, from the prover's first line."""
+    """The function whose fact was refused, or the law that it stands on, and the fact, from the prover's first line."""
     fact = re.search(r"`([\w-]+)`", said)
     fact = f" `{fact[1]}`" if fact else ""
-    proof = re.search(r"proofs/([\w/]+)/\w+\.antt", said)
+    proof = re.search(r"proofs/([\w/+]+)\.antt", said)
     if proof:
-        return f"{proof[1].replace('/', '::')}{fact}"
-    law = re.search(r"proofs/(\w+)\.antt", said)
-    if law:
-        return f"{law[1]}{fact}"
+        return re.sub(r"(/\+\w+)?(/Answers|/Invariants)?$", "", proof[1]).replace("/", "::") + fact
     source = re.search(r"(src/[\w/]+\.rt):(\d+)", said)
     if not source:
-        return said[:80]
+        return said.removeprefix(" as it must be")[:80] or "its recursion"
     lines = (TOP / "crates" / crate / source[1]).read_text().splitlines()
     at = int(source[2])
-    while lines[at - 1].lstrip().startswith("#["):  # what the prover says of a function with a tactic stands at the tactic
+    while lines[at - 1].lstrip().startswith("#["):  # what is said of a function with a tactic stands at the tactic
         at += 1
     above = (re.search(r"\bfn (\w+)", it) for it in reversed(lines[:at]))
     name = next((it[1] for it in above if it), "?")
