@@ -123,7 +123,7 @@ def copied(to):
 
 def place_of(said, crate):
     """The function whose fact was refused, or the law that it stands on, and the fact, from the prover's first line."""
-    fact = re.search(r"`([\w-]+)`", said)
+    fact = re.search(r"`(?!search`)([\w-]+)`", said)
     fact = f" `{fact[1]}`" if fact else ""
     proof = re.search(r"proofs/([\w/+]+)\.antt", said)
     if proof:
@@ -269,13 +269,32 @@ def table(layer):
     for edit in sorted(edits_of([layer]), key=lambda it: it.name):
         by_prover, otherwise = rows.get(edit.name, ["-", "-"])
         kept = " *" if edit.kept else ""
-        lines.append(f"| {edit.name}{kept}: {edit.wrong} | {by_prover} | {otherwise} |".replace("_", r"\_"))
+        lines.append(f"| {edit.name}{kept}: {edit.wrong} | {by_prover} | {otherwise} |")
+    return lines
+
+
+def counts(layer):
+    """How many there are, how many the prover refuses, how many were run, and what found these."""
+    rows = rows_of(layer)
+    found = [rows.get(it.name, ["-", "-"]) for it in edits_of([layer])]
+    refused = [it for it in found if it[0] != "-" and not it[0].startswith("NOT")]
+    judged = [it[1] for it in found if it[1] not in ("-", "not run")]
+    by_tests = [it for it in judged if it.startswith("tests")]
+    return [len(found), len(refused), len(judged), judged.count("comparison"), len(by_tests), judged.count("nothing")]
+
+
+def summary():
+    rows = {LAYERS[it][0]: counts(it) for it in LAYERS}
+    rows["all"] = [sum(it) for it in zip(*rows.values())]
+    lines = ["## In all", "", "| Layer | wrong programs | refused by the prover | run | found by the comparison | by tests | by nothing |"]
+    lines += ["|---|---|---|---|---|---|---|", *[f"| {name} | {' | '.join(map(str, row))} |" for name, row in rows.items()]]
     return lines
 
 
 def written():
     head = PAGE.read_text().split("\n## ", 1)[0].rstrip()
-    PAGE.write_text("\n".join([head, "", *[line for it in LAYERS for line in [*table(it), ""]]]).rstrip() + "\n")
+    parts = [[head], summary(), *[table(it) for it in LAYERS]]
+    PAGE.write_text("\n\n".join("\n".join(it) for it in parts) + "\n")
 
 
 def main():
