@@ -1,16 +1,17 @@
 #!/usr/bin/env python3
 """Plants wrong programs, one at a time, and records what refuses each.
 
-    planted/run.py [--only WORD] [--jobs N] [--cases N] [LAYER..]   tries the wrong programs of these layers, or of all
-    planted/run.py --table                                          writes the tables of docs/PLANTED.md
+    planted/run.py [--only WORD] [LAYER..]               asks the prover of the wrong programs of these layers, or of all
+    planted/run.py --run [--jobs N] [--cases N] [..]     asks the comparison and the tests of them
+    planted/run.py --table                               writes the tables of docs/PLANTED.md
 
 A wrong program is an edit of one line or a few, planted/LAYER/NAME.edit, in the form of a must-fail edit (`file:`, and then
 `old:` and `new:` in pairs), with two lines more: `crate:`, and `wrong:`, which says what it does wrong. An edit that the gate
 tries stands in crates/CRATE/must-fail instead and names its layer in a line `layer:`.
 
-For each, the prover checks the crate with the edit. Then the program is built without a proof, and compared with the
+The prover checks the crate with the edit. The comparison builds the program without a proof, and compares it with the
 reference over random cases; where no case differs, the tests of `cases` and those of the crate are run. What was found
-goes to planted/LAYER/found.tsv: name, what the prover said, what else found it.
+goes to planted/LAYER/found.tsv: name, what the prover said, what else found it (`-` where it was not asked).
 
 The toolchain builds no program that is not proved, but `rt try` runs one. The comparison needs the program itself, so
 `rt try` is run from a folder that has all of the toolchain but for the linker, which keeps what it links there.
@@ -148,6 +149,8 @@ def kit_with_linker(room):
     linker.unlink()
     linker.write_text(LINKER.format(kit=kit, room=own))
     linker.chmod(0o755)
+    # `rt try` also has the compiler look for names that a check would refuse, which is not asked here
+    (own / "bin" / "rattle").write_text("#!/bin/sh\nexit 1\n")
     return own
 
 
@@ -186,38 +189,44 @@ def found_otherwise(edit, cases):
         return compared(tree, kit_with_linker(room), cases) or tested(tree, edit.crate) or "nothing"
 
 
-def record(edits, by_prover, otherwise):
-    for layer in {it.layer for it in edits}:
-        file = PLANTED / layer / "found.tsv"
-        file.parent.mkdir(exist_ok=True)
-        rows = dict(it.split("\t", 1) for it in file.read_text().splitlines()) if file.exists() else {}
-        alive = {it.name for it in edits_of([layer])}
-        for it in edits:
-            if it.layer == layer:
-                rows[it.name] = f"{by_prover[it.name]}\t{otherwise[it.name]}"
-        file.write_text("".join(f"{name}\t{rows[name]}\n" for name in sorted(rows) if name in alive))
+def rows_of(layer):
+    """What was found so far, by name: what the prover said, and what else found it."""
+    file = PLANTED / layer / "found.tsv"
+    rows = [it.split("\t") for it in file.read_text().splitlines()] if file.exists() else []
+    return {name: found for name, *found in rows}
 
 
-def tried(arguments):
-    edits = edits_of(arguments.layers or list(LAYERS), arguments.only)
+def record(edit, judge, found):
+    rows = rows_of(edit.layer)
+    rows.setdefault(edit.name, ["-", "-"])[judge] = found
+    alive = {it.name for it in edits_of([edit.layer])}
+    text = "".join("\t".join([name, *rows[name]]) + "\n" for name in sorted(rows) if name in alive)
+    (PLANTED / edit.layer).mkdir(exist_ok=True)
+    (PLANTED / edit.layer / "found.tsv").write_text(text)
+    print(f"{edit.layer}/{edit.name}: {found}", flush=True)
+
+
+def ask_prover(edits):
+    for crate in sorted({it.crate for it in edits}):
+        its = [it for it in edits if it.crate == crate]
+        said = prover(crate, its)
+        for edit in its:
+            record(edit, 0, said[edit.name])
+
+
+def ask_others(edits, jobs, cases):
     subprocess.run(["cargo", "build", "--quiet", "--release", "--offline", "--manifest-path",
                     TOP / "reference" / "Cargo.toml"], check=True)
-    by_prover, otherwise = {}, {}
-    for crate in sorted({it.crate for it in edits}):
-        by_prover |= prover(crate, [it for it in edits if it.crate == crate])
-    with ThreadPoolExecutor(arguments.jobs) as pool:
-        for edit, found in zip(edits, pool.map(lambda it: found_otherwise(it, arguments.cases), edits)):
-            otherwise[edit.name] = found
-            print(f"{edit.layer}/{edit.name}: {by_prover[edit.name]}; {found}", flush=True)
-    record(edits, by_prover, otherwise)
+    with ThreadPoolExecutor(jobs) as pool:
+        for edit, found in zip(edits, pool.map(lambda it: found_otherwise(it, cases), edits)):
+            record(edit, 1, found)
 
 
 def table(layer):
-    file = PLANTED / layer / "found.tsv"
-    rows = dict(it.split("\t", 1) for it in file.read_text().splitlines()) if file.exists() else {}
+    rows = rows_of(layer)
     lines = [f"## {LAYERS[layer]}", "", "| Wrong program | refused by the proof of | found otherwise by |", "|---|---|---|"]
     for edit in sorted(edits_of([layer]), key=lambda it: it.name):
-        by_prover, otherwise = rows.get(edit.name, "\t").split("\t")
+        by_prover, otherwise = rows.get(edit.name, ["-", "-"])
         kept = " *" if edit.kept else ""
         lines.append(f"| {edit.name}{kept}: {edit.wrong} | {by_prover} | {otherwise} |".replace("_", r"\_"))
     return lines
@@ -232,6 +241,7 @@ def main():
     take = argparse.ArgumentParser(description=__doc__, formatter_class=argparse.RawDescriptionHelpFormatter)
     take.add_argument("layers", nargs="*", metavar="LAYER")
     take.add_argument("--only", default="", metavar="WORD")
+    take.add_argument("--run", action="store_true")
     take.add_argument("--jobs", type=int, default=1)
     take.add_argument("--cases", type=int, default=1000)
     take.add_argument("--table", action="store_true")
@@ -239,7 +249,13 @@ def main():
     unknown = [it for it in arguments.layers if it not in LAYERS]
     if unknown:
         sys.exit(f"planted/run.py: {unknown[0]} is no layer: they are {' '.join(LAYERS)}")
-    written() if arguments.table else tried(arguments)
+    edits = edits_of(arguments.layers or list(LAYERS), arguments.only)
+    if arguments.table:
+        written()
+    elif arguments.run:
+        ask_others(edits, arguments.jobs, arguments.cases)
+    else:
+        ask_prover(edits)
 
 
 if __name__ == "__main__":
