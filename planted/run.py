@@ -100,14 +100,17 @@ def place_of(said, crate):
     """The function whose fact was refused, and the fact, from the prover's first line."""
     fact = re.search(r"`([\w-]+)`", said)
     fact = f" `{fact[1]}`" if fact else ""
-    proof = re.search(r"proofs/([\w/]+)/\w+\.antt", said)
+    proof = re.search(r"proofs/([\w/]+)\.antt", said)
     if proof:
-        return f"{proof[1].replace('/', '::')}{fact}"
+        return f"{re.sub('/(Answers|Invariants)$', '', proof[1]).replace('/', '::')}{fact}"
     source = re.search(r"(src/[\w/]+\.rt):(\d+)", said)
     if not source:
-        return said[:80]
+        return said.removeprefix(" as it must be")[:80] or "its recursion"
     lines = (TOP / "crates" / crate / source[1]).read_text().splitlines()
-    above = (re.search(r"\bfn (\w+)", it) for it in reversed(lines[: int(source[2])]))
+    line = int(source[2])
+    while lines[line - 1].strip().startswith("#["):
+        line += 1
+    above = (re.search(r"\bfn (\w+)", it) for it in reversed(lines[:line]))
     name = next((it[1] for it in above if it), "?")
     return f"{source[1].removeprefix('src/').removesuffix('.rt')}::{name}{fact}"
 
