@@ -18,7 +18,7 @@ mod tests {
 
     // One input, one output, two positions, start 1, and three records: input 0 with output 0 stays at 1, input 1 with
     // output 1 leads from 1 to 2, and input 0 with output 0 leads from 2 to 1. The header, the two heads, the records.
-    const WORKED: [u8; 36] = *b"\x01\x01\x02\x01\x00\x03\x00\x00\
+    pub(crate) const WORKED: [u8; 36] = *b"\x01\x01\x02\x01\x00\x03\x00\x00\
         \x00\x01\x00\x03\
         \x00\x00\x01\x00\x00\x02\x00\x00\
         \x01\x01\x02\x00\x00\x00\x00\x00\
@@ -26,7 +26,7 @@ mod tests {
 
     // Its book: 2 is lost at input 1, so it counts 0, and input 1 leads there from 1, which so counts 1. The header, and
     // for each position its count and spoiling input and then its answers.
-    const BOOK: [u8; 56] = *b"\x01\x01\x01\x02\x01\x00\x00\x00\
+    pub(crate) const BOOK: [u8; 56] = *b"\x01\x01\x01\x02\x01\x00\x00\x00\
         \x02\x00\x00\x00\x00\x01\x01\x00\
         \x00\x01\x00\x00\x00\x00\x00\x00\x00\x00\x00\x00\x00\x00\x00\x00\
         \x02\x00\x00\x00\x00\x00\x01\x00\
@@ -80,7 +80,7 @@ mod tests {
     }
 
     // A diagram of so many positions, none of which moves anywhere.
-    fn still(heap: Global, size: u8) -> Result<Vec<u8>, AllocError> {
+    pub(crate) fn still(heap: Global, size: u8) -> Result<Vec<u8>, AllocError> {
         let mut image = vec![in heap; 0, 0, size, 1, 0, 0, 0, 0]?;
         for _ in 0..size {
             image.extend_from_slice(&[0, 0])?;
@@ -89,7 +89,7 @@ mod tests {
     }
 
     // A diagram of 255 positions, each of which moves to the next, and the last nowhere.
-    fn chain(heap: Global) -> Result<Vec<u8>, AllocError> {
+    pub(crate) fn chain(heap: Global) -> Result<Vec<u8>, AllocError> {
         let mut image = vec![in heap; 0, 0, 255, 1, 0, 254, 0, 0]?;
         let mut records = Vec::new(heap);
         for p in 1..255u8 {
@@ -297,6 +297,10 @@ mod tests {
     }
 }
 
+#[cfg(test)]
+mod any_bytes;
+#[cfg(test)]
+mod library;
 #[cfg(test)]
 mod rule_counts;
 #[cfg(test)]
