@@ -77,12 +77,21 @@ fn row(heap: Global) -> Result<Vec<CallCode>, AllocError> {
 fn diagrams_are_solved_and_accepted(rt: HostRuntime) -> Result<(), Fail> {
     let mut short = [0xAA; 55];
     assert_eq!(rt; numbers(solve_diagram(&BOOK, &mut short)), (14, 6, 0, 3, 0));
-    assert_eq!(rt; numbers(solve_diagram(&WORKED, &mut short)), (13, 5, 0, 0, 0));
+    assert_eq!(rt;
+        numbers(solve_diagram(&WORKED, &mut short)),
+        (13, 5, 0, 0, 0)
+    );
     assert!(rt; short == [0xAA; 55]);
     let mut store = [0xAA; 64];
-    assert_eq!(rt; numbers(solve_diagram(&WORKED, &mut store)), (0, 0, 0, 0, 56));
+    assert_eq!(rt;
+        numbers(solve_diagram(&WORKED, &mut store)),
+        (0, 0, 0, 0, 56)
+    );
     assert_eq!(rt; numbers(accept_diagram(&WORKED, &BOOK)), (0, 0, 0, 0, 56));
-    assert_eq!(rt; numbers(accept_diagram(&WORKED, &BOOK[..55])), (18, 8, 0, 0, 0));
+    assert_eq!(rt;
+        numbers(accept_diagram(&WORKED, &BOOK[..55])),
+        (18, 8, 0, 0, 0)
+    );
     let longest = still(rt.alloc(), 255)?;
     let mut book = vec![in rt.alloc(); 0u8; 6129]?;
     let solved = solve_diagram(longest.as_slice(), book.as_mut_slice());
@@ -95,14 +104,32 @@ fn diagrams_are_solved_and_accepted(rt: HostRuntime) -> Result<(), Fail> {
 #[test]
 fn rules_are_solved_and_accepted(rt: HostRuntime) -> Result<(), Fail> {
     let mut store = [0; 64];
-    assert_eq!(rt; numbers(solve_rule(SIGNALS, b"false", &mut store)), (10, 4, 0, 0, 0));
-    assert_eq!(rt; numbers(solve_rule(SIGNALS, b"G luck", &mut store)), (5, 3, 2, 2, 0));
-    assert_eq!(rt; numbers(solve_rule(b"in door door", RULE, &mut store)), (4, 2, 1, 8, 0));
-    assert_eq!(rt; numbers(solve_rule(SIGNALS, RULE, &mut store)), (0, 0, 0, 0, 56));
-    assert_eq!(rt; numbers(accept_rule(SIGNALS, RULE, &store)), (18, 8, 0, 0, 0));
+    assert_eq!(rt;
+        numbers(solve_rule(SIGNALS, b"false", &mut store)),
+        (10, 4, 0, 0, 0)
+    );
+    assert_eq!(rt;
+        numbers(solve_rule(SIGNALS, b"G luck", &mut store)),
+        (5, 3, 2, 2, 0)
+    );
+    assert_eq!(rt;
+        numbers(solve_rule(b"in door door", RULE, &mut store)),
+        (4, 2, 1, 8, 0)
+    );
+    assert_eq!(rt;
+        numbers(solve_rule(SIGNALS, RULE, &mut store)),
+        (0, 0, 0, 0, 56)
+    );
+    assert_eq!(rt;
+        numbers(accept_rule(SIGNALS, RULE, &store)),
+        (18, 8, 0, 0, 0)
+    );
     let mut exact = [0; 56];
     let _ = solve_rule(SIGNALS, RULE, &mut exact);
-    assert_eq!(rt; numbers(accept_rule(SIGNALS, RULE, &exact)), (0, 0, 0, 0, 56));
+    assert_eq!(rt;
+        numbers(accept_rule(SIGNALS, RULE, &exact)),
+        (0, 0, 0, 0, 56)
+    );
     let mut book = vec![in rt.alloc(); 0u8; 6128]?;
     let solved = solve_rule(SIGNALS, ROW_OF_EIGHT.as_bytes(), book.as_mut_slice());
     assert_eq!(rt; numbers(solved), (0, 0, 0, 0, 6128));

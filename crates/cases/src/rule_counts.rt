@@ -75,7 +75,8 @@ fn sets_that_disagree_are_held_until_their_round(rt: HostRuntime) -> Result<(), 
 }
 
 // A door that was on is followed by the lock eight rounds later, and may not be on for eight rounds.
-pub(crate) const ROW_OF_EIGHT: &str = "G(!door | XXXXXXXX lock) & G(!door | X !door | XX !door | XXX !door
+pub(crate) const ROW_OF_EIGHT: &str =
+    "G(!door | XXXXXXXX lock) & G(!door | X !door | XX !door | XXX !door
     | XXXX !door | XXXXX !door | XXXXXX !door | XXXXXXX !door)";
 
 // Position p stands for a row of eight rounds: bit k of p - 1 is set where the door was on k rounds before. A round

@@ -1,5 +1,5 @@
 -- Every refusal's number, layer and place.
-use Rattle.std.specs.Prelude.{ℕ}
+use Rattle.std.specs.Prelude.{ℕ, List, codes}
 use Rattle.terms.specs.declared.refusal.Refusal.{Refusal}
 use Rattle.terms.specs.declared.refusal.Refusal.TheVariants.{TextTooLong, StrangeByte, Misplaced, BadName, UnknownName, TooManySignals, Unsupported, TooDeep, RuleTooLarge, StartLost, TooWide, TooManyPositions, StoreTooShort, DiagramField, DiagramChain, DiagramRepeat, SizeZero, NotThisBook, OutOfRange, RunLost, TooManySweeps}
 use Rattle.terms.specs.declared.refusal.Layer.{Layer}
@@ -52,6 +52,18 @@ layer NotThisBook = Run
 layer OutOfRange = Run
 layer RunLost = Run
 layer TooManySweeps = Solve
+
+-- the word that is printed for a layer
+abbrev pub layer_word : Layer → List ℕ
+layer_word Text = codes "text"
+layer_word Signals = codes "signals"
+layer_word Rule = codes "rule"
+layer_word Compile = codes "compile"
+layer_word Store = codes "store"
+layer_word Diagram = codes "diagram"
+layer_word Game = codes "game"
+layer_word Run = codes "run"
+layer_word Solve = codes "solve"
 
 -- the byte at which the cause stands, or the position that was being left; 0 where it stands at none
 abbrev pub place : Refusal → ℕ

@@ -1,6 +1,6 @@
 // Why a call is refused: one list for the whole product.
-ghost use Rattle.std.specs.Prelude.{◌≡◌};
-ghost use Rattle.terms.specs.Refusals.{number, layer, place};
+ghost use Rattle.std.specs.Prelude.{◌≡◌, Some};
+ghost use Rattle.terms.specs.Refusals.{number, layer, place, layer_word};
 
 use std::fmt;
 use thiserror::Error;
@@ -68,6 +68,8 @@ pub enum Layer {
 
 // Kept: a layer is no error, and only errors derive their words.
 impl fmt::Display for Layer {
+    ghost output = { λ layer. Some (layer_word layer) };
+
     fn fmt<W: fmt::Write>(&self, f: &mut fmt::Formatter<W>) -> fmt::Result {
         let name = match self {
             Layer::Text => "text",
@@ -80,7 +82,7 @@ impl fmt::Display for Layer {
             Layer::Run => "run",
             Layer::Solve => "solve",
         };
-        write!(f, "{name}")
+        f.write_str(name)
     }
 }
 
