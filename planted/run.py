@@ -67,7 +67,7 @@ LAYERS = {
 }
 # Crates whose own tests see more of them than the tests of `cases` do.
 TESTED = ("words", "reader")
-# Crates that the program does not reach: a library is built of proved sources alone, so it is not compared here.
+# Crates that the program does not reach, so that nothing is to be compared.
 UNREACHED = ("calls", "cuzzambra")
 LINKER = """#!/bin/sh
 {kit}/toolchain/bin/ld.lld "$@" || exit $?
@@ -214,7 +214,8 @@ def found_otherwise(edit, cases):
     with tempfile.TemporaryDirectory(prefix="planted-") as room:
         tree = copied(Path(room) / "tree")
         edit.apply(tree)
-        return compared(tree, kit_with_linker(room), cases) or tested(tree, edit.crate) or "nothing"
+        differs = "" if edit.crate in UNREACHED else compared(tree, kit_with_linker(room), cases)
+        return differs or tested(tree, edit.crate) or "nothing"
 
 
 def rows_of(layer):
@@ -246,7 +247,7 @@ def not_asked(edits):
     """Those that only the prover was asked of: the first of each layer, the second of each, and so on."""
     left = {}
     for edit in edits:
-        if rows_of(edit.layer).get(edit.name, ["-", "-"])[1] == "-" and edit.crate not in UNREACHED:
+        if rows_of(edit.layer).get(edit.name, ["-", "-"])[1] == "-":
             left.setdefault(edit.layer, []).append(edit)
     rows = zip_longest(*left.values())
     return [edit for row in rows for edit in row if edit]
@@ -278,7 +279,7 @@ def counts(layer):
     rows = rows_of(layer)
     found = [rows.get(it.name, ["-", "-"]) for it in edits_of([layer])]
     refused = [it for it in found if it[0] != "-" and not it[0].startswith("NOT")]
-    judged = [it[1] for it in found if it[1] not in ("-", "not run")]
+    judged = [it[1] for it in found if it[1] != "-"]
     by_tests = [it for it in judged if it.startswith("tests")]
     return [len(found), len(refused), len(judged), judged.count("comparison"), len(by_tests), judged.count("nothing")]
 
