@@ -1,19 +1,47 @@
 // Accepting a book: one pass over its bytes and the moves of its game.
-ghost use Rattle.std.specs.Prelude.{◌≡◌, ℕ, ◌^◌, ◌≤◌, length, take, drop, Decides, MatchResult};
+ghost use Rattle.std.specs.Prelude.{◌≡◌, ℕ, ◌^◌, ◌<◌, ◌≤◌, length, take, drop, Decides, MatchResult};
 ghost use Rattle.arena.specs.Arena.{Place};
+ghost use Rattle.terms.specs.Best.{Best};
 ghost use Rattle.terms.specs.Order.{Most, Least};
 ghost use Rattle.arena.specs.Book.{front, header, entry_at, book_length};
 ghost use Rattle.book.specs.Told.{count_told, spoiling_told, answer_told, count_in};
 ghost use Rattle.book.specs.Agreeing.{Follows, Expected, AnswersAgree, AgreesAt, Agrees};
 ghost use Rattle.book.specs.Accepting.{Accepted, Unaccepted};
+ghost use Rattle.book.specs.Picking.{UpTo, Computes};
 
-use crate::best::least;
-use crate::layout::{book_length, front_of, header_of};
 use crate::told::{answer_told, count_told, entry_at, spoiling_told};
 use game::game::{Game, input_count, output_count};
 use std::cmp::Reverse;
 use terms::count::Count;
 use terms::refusal::Refusal;
+
+// The number below n whose key is the least, the lowest on ties.
+// Kept: this and the two below stand in the solver's `best` and `layout` too, since the check shares no step with the solver.
+fn pick<K: Ord + Drop, F: Fn(u8) -> K>(n: u8, key: F) -> u8
+    requires some { 1 ≤ n }
+    requires callable { (x : ℕ) → x < n → F.pre key x }
+    ensures { (f : ℕ → K) → Computes (F.post key) n f → Best (λ c d. UpTo K.partial_cmp d c) n f result }
+{
+    (0..n)
+        .min_by_key(
+            |x|
+                requires { F.pre key x.now }
+            { key(*x) },
+        )
+        .unwrap_or(0)
+}
+
+// A record's first eight bytes for a count and a spoiling input.
+fn front_of(count: Count, spoiling: Option<u8>) -> [u8; 8]
+    ensures { result ≡ front count spoiling }
+{
+    let x = spoiling.unwrap_or(0);
+    match count {
+        Count::Lost => [0, 0, 0, 0, 0, 0, x, 0],
+        Count::Limited(k) => [2, 0, 0, 0, (k / 256) as u8, (k % 256) as u8, x, 0],
+        Count::Unlimited => [1, 0, 0, 0, 0, 0, x, 0],
+    }
+}
 
 // A book that is judged against a game, as long as the game's own.
 #[derive(Drop)]
@@ -35,11 +63,10 @@ impl<G: Game> Judged<'_, G> {
     }
 
     // The output whose move counts most, the lowest on ties.
-    // Kept: a solution picks likewise, by its own counts. A trait over both would be longer than the two picks.
     fn best_output(&self, p: u8, x: u8) -> u8
         ensures { Most (2 ^ (G.meaning self.now.game.now).outputs) (λ y. count_in self.now.book.now ((G.meaning self.now.game.now).move p x y)) result }
     {
-        least(
+        pick(
             output_count(self.game),
             |y| Reverse(self.move_count(p, x, y)),
         )
@@ -56,7 +83,7 @@ impl<G: Game> Judged<'_, G> {
     fn worst_input(&self, p: u8) -> u8
         ensures { Least (2 ^ (G.meaning self.now.game.now).inputs) (λ x. count_in self.now.book.now ((G.meaning self.now.game.now).move p x (answer_told self.now.book.now p x))) result }
     {
-        least(input_count(self.game), |x| self.answer_count(p, x))
+        pick(input_count(self.game), |x| self.answer_count(p, x))
     }
 
     // Whether the answer to x in the record of p is the best, and 0 where there is no such input.
@@ -114,12 +141,21 @@ impl<G: Game> Judged<'_, G> {
         (1..=self.game.size()).all(|p| self.record_agrees(p))
     }
 
+    // Whether the first eight bytes are the game's.
+    fn header_agrees(&self) -> bool
+        requires { 8 ≤ length self.now.book.now }
+        ensures { Decides result (take 8 self.now.book.now ≡ header (G.meaning self.now.game.now)) }
+    {
+        let g = self.game;
+        self.book[..8] == [1, g.inputs(), g.outputs(), g.size(), g.start(), 0, 0, 0]
+    }
+
     // Whether the whole book agrees with the moves.
     fn agrees(&self) -> bool
         requires { 1 ≤ (G.meaning self.now.game.now).size }
         ensures { Decides result (Agrees (G.meaning self.now.game.now) self.now.book.now) }
     {
-        self.book[..8] == header_of(self.game)[..] && self.records_agree()
+        self.header_agrees() && self.records_agree()
     }
 }
 
@@ -130,7 +166,7 @@ pub fn accept<G: Game>(g: &G, book: &[u8]) -> Result<(), Refusal>
     if g.size() == 0 {
         return Err(Refusal::SizeZero);
     }
-    if book.len() != book_length(g) {
+    if book.len() != 8 + 24 * g.size() as usize {
         return Err(Refusal::NotThisBook);
     }
     let judged = Judged { game: g, book };

@@ -7,7 +7,6 @@ ghost use Rattle.book.specs.Ranks.{Filled};
 
 use crate::layout::{front_of, header_of};
 use crate::solution::Solution;
-use crate::told::entry_at;
 use game::game::{Game, input_count};
 use std::array;
 
@@ -51,7 +50,7 @@ impl<G: Game> Solution<'_, G> {
 
         // Kept: the 24 bytes in the middle of the book are lent to the writer of a record, which so knows nothing of the rest.
         for p in 1..=self.game.size() {
-            let at = entry_at(p);
+            let at = 8 + 24 * (p as usize - 1);
             self.write_record(p, &mut book[at..at + 24]);
         }
     }

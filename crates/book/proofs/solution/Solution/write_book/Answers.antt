@@ -1,9 +1,9 @@
-use Rattle.std.proofs.Common.{arith}
+use Rattle.std.proofs.Common.{refl, arith}
 use Rattle.book.proofs.WriteLaws.{written_more, book_from}
 use Rattle.book.proofs.solution.Solution.write_book.Goals as goal
 
 pub loop-p-preserved : goal.loop-p-preserved
-loop-p-preserved g c = written_more c.entry_at-at.ensures (omega arith) (omega arith) (omega arith) c.write_record.ensures c.loop-p.invariant
+loop-p-preserved g c = written_more refl (omega arith) (omega arith) (omega arith) c.write_record.ensures c.loop-p.invariant
 
 pub returns-2 : goal.returns-2
-returns-2 g c = book_from (omega arith) (omega arith) (written_more c.entry_at-at.ensures (omega arith) (omega arith) (omega arith) c.write_record.ensures c.loop-p.invariant)
+returns-2 g c = book_from (omega arith) (omega arith) (written_more refl (omega arith) (omega arith) (omega arith) c.write_record.ensures c.loop-p.invariant)
