@@ -1,5 +1,5 @@
 // The solution of a game: its values, by the ranks of its positions.
-ghost use Rattle.std.specs.Prelude.{◌≡◌, ℕ, ◌^◌, ◌<◌, ◌≤◌};
+ghost use Rattle.std.specs.Prelude.{◌≡◌, ℕ, ◌^◌, ◌<◌, ◌≤◌, slice_index};
 ghost use Rattle.arena.specs.Arena.{Place};
 ghost use Rattle.terms.specs.Order.{Least};
 ghost use Rattle.arena.specs.Values.{Values};
@@ -17,6 +17,8 @@ pub(crate) struct Solution<'a, G: Game> {
     pub(crate) game: &'a G,
     pub(crate) ranks: [u16; 256],
     pub(crate) top: u16,
+    ghost low: { top ≤ 257 },
+    ghost within: { (q : ℕ) → slice_index ranks q ≤ top },
     ghost counts: { (v : Values (G.meaning game.now)) (q : ℕ) → v.count q ≡ counts_of top ranks q },
 }
 

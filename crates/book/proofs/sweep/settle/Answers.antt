@@ -1,4 +1,4 @@
-use Rattle.std.proofs.Common.{rules, suc}
+use Rattle.std.proofs.Common.{rules, suc, arith}
 use Rattle.arena.specs.Held.{Settled}
 use Rattle.book.specs.Ranks.{Ranks}
 use Rattle.book.proofs.RankLaws.{settled_counts}
@@ -9,4 +9,8 @@ invariant_of-result g c =
     let a = g.G.Game.meaning c.args.game.now in
     let over : Settled a c.loop-k.k = search rules in
     let ranks : Ranks a (suc c.loop-k.k) c.sweep.new.self.ranks = search rules in
-    record { counts = settled_counts a c.loop-k.k c.sweep.new.self.ranks over ranks }
+    record {
+      low = omega arith;
+      within = λ q. omega (arith, (ranks q).most);
+      counts = settled_counts a c.loop-k.k c.sweep.new.self.ranks over ranks;
+    }
