@@ -38,6 +38,36 @@ filling_more a at v moves low e f = record {
   ahead = λ k l. get_or-set_other moves at k v 0 (λ s. omega arith) ∙ f.ahead k (omega arith);
 }
 
+-- the move that stands at a place, said by its position, input and output
+pub filling_move : (a : Arena) (p x y at v : ℕ) (moves : List ℕ) → x < 16 → y < 16 → at ≡ place p x y → at < 65536 → v ≡ a.move p x y → Filling a at moves → Filling a (at + 1) (set moves at v)
+filling_move a p x y at v moves i o here low e f =
+    let at_p : at / 256 ≡ p = omega arith in
+    let at_x : at / 16 % 16 ≡ x = omega arith in
+    let at_y : at % 16 ≡ y = omega arith in
+    filling_more a at v moves low (e ∙ cc (at_p, at_x, at_y)) f
+
+-- moves that are lost need no asking
+filling_past : (a : Arena) (at to : ℕ) (moves : List ℕ) → at ≤ to → ((p x y : ℕ) → x < 16 → y < 16 → at ≤ place p x y → place p x y < to → a.move p x y ≡ 0) → Filling a at moves → Filling a to moves
+filling_past a at to moves up none f = record {
+  long = f.long;
+  done = λ p x y i o l. elim (cases_lt (place p x y) at) [
+    | inl before ↦ f.done p x y i o before
+    | inr ahead ↦ f.ahead (place p x y) ahead ∙ sym (none p x y i o ahead l)
+  ];
+  ahead = λ k l. f.ahead k (omega arith);
+}
+
+-- nothing leads out of lost
+pub past_lost : (a : Arena) (moves : List ℕ) → Walks a → Filling a 0 moves → Filling a 256 moves
+past_lost a moves walks = filling_past a 0 256 moves (omega arith) (λ p x y i o h l. let none : p ≡ 0 = omega arith in ap (λ q. a.move q x y) none ∙ walks.from_lost x y)
+
+-- behind the last output of a row, and behind the last input of a position, every move is lost
+pub past_row : (a : Arena) (p x m at : ℕ) (moves : List ℕ) → Walks a → x < 16 → m ≡ 2 ^ a.outputs → m ≤ 16 → at ≡ place p x m → Filling a at moves → Filling a (place p (x + 1) 0) moves
+past_row a p x m at moves walks i e most here = filling_past a at (place p (x + 1) 0) moves (omega arith) (λ q z y j o h l. let past : 2 ^ a.outputs ≤ y = omega (arith, e) in walks.past_output q z y past)
+
+pub past_rows : (a : Arena) (p n at : ℕ) (moves : List ℕ) → Walks a → n ≡ 2 ^ a.inputs → n ≤ 16 → at ≡ place p n 0 → Filling a at moves → Filling a (place (p + 1) 0 0) moves
+past_rows a p n at moves walks e most here = filling_past a at (place (p + 1) 0 0) moves (omega arith) (λ q z y j o h l. let past : 2 ^ a.inputs ≤ z = omega (arith, e) in walks.past_input q z y past)
+
 -- behind the last position every move is lost
 pub filling_whole : (a : Arena) (at : ℕ) (moves : List ℕ) → Sound a → at ≡ (a.size + 1) * 256 → Filling a at moves → HasMoves a moves
 filling_whole a at moves sound e f p x y _ i o = elim (cases_lt a.size p) [

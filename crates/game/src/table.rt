@@ -2,7 +2,7 @@
 ghost use Rattle.std.specs.Prelude.{◌≡◌, ◌+◌, ◌*◌, ◌<◌, slice_index};
 ghost use Rattle.game.specs.Moves.{HasMoves};
 
-use crate::game::Game;
+use crate::game::{Game, input_count, output_count};
 
 // A game with its moves in a table: 16 rows for each position, one for an input, of 16 outputs each.
 #[derive(Drop)]
@@ -13,14 +13,18 @@ pub struct MoveTable<'a, G: Game> {
 }
 
 impl<'a, G: Game> MoveTable<'a, G> {
-    // Asks a game once for each move from its positions, and from 0, which is lost; no other move leads anywhere.
+    // Asks a game once for each move that it has; no other move leads anywhere.
     pub fn of(game: &'a G) -> MoveTable<'a, G>
         ensures game { result.game.now ≡ game.now }
         ensures means { ⟦<MoveTable<'a, G> as Game>⟧.meaning result ≡ G.meaning game.now }
     {
         let mut moves = [0; 65536];
-        for at in 0..(game.size() as usize + 1) * 256 {
-            moves[at] = game.step((at / 256) as u8, (at / 16 % 16) as u8, (at % 16) as u8);
+        for p in 1..game.size() as usize + 1 {
+            for x in 0..input_count(game) as usize {
+                for y in 0..output_count(game) as usize {
+                    moves[256 * p + 16 * x + y] = game.step(p as u8, x as u8, y as u8);
+                }
+            }
         }
         MoveTable { game, moves }
     }
