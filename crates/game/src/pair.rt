@@ -9,8 +9,8 @@ use crate::range::Extent;
 // Signal k of the one is signal k of the other, and a round that either loses is lost.
 #[derive(Drop)]
 pub struct Pair<A, B> {
-    first: A,
-    second: B,
+    pub first: A,
+    pub second: B,
 }
 
 impl<A: Game, B: Game> Pair<A, B> {
