@@ -1,7 +1,8 @@
 -- The size of a rule whose parts are entered, and the store that it leaves.
-use Rattle.std.proofs.Common.{◌≡◌, ℕ, zero, suc, ◌+◌, ◌-◌, ◌<◌, ◌≤◌, Bool, true, false, cond, List, [], ◌∷◌, ◌++◌, length, get_or, drop, replicate, count_by, Some, Ok, Err, Result, IsErrAnd, sym, refl, ap, ◌∙◌, subst, ap₂, arith, length-append}
+use Rattle.std.proofs.Common.{◌≡◌, ℕ, zero, suc, ◌+◌, ◌-◌, ◌<◌, ◌≤◌, Bool, true, false, cond, List, [], ◌∷◌, ◌++◌, length, get_or, take, drop, replicate, count_by, Some, Ok, Err, Result, IsErrAnd, sym, refl, ap, ◌∙◌, subst, ap₂, arith, length-append}
 use Rattle.std.proofs.lemmas.List.{drop-replicate, length-replicate}
 use Rattle.std.proofs.lemmas.List.Recursion.{is_count_by}
+use Rattle.std.proofs.Math.Seq.{take-append_seam}
 use Rattle.terms.specs.declared.refusal.Refusal.{Refusal}
 use Rattle.terms.specs.declared.refusal.Refusal.TheVariants.{RuleTooLarge}
 use Rattle.terms.specs.Refusals as refusals
@@ -14,11 +15,12 @@ use Rattle.rules.proofs.TableLaws.{parts_right}
 use Rattle.reader.specs.declared.read.Reading.{Reading}
 use Rattle.reader.specs.Grammar.{Names, Reads}
 use Rattle.reader.specs.Faults.{tree, refusal}
-use Rattle.reader.specs.Texts.{parts_in, duties_in, Sized, RuleText, Served, ReadRule}
+use Rattle.reader.specs.Texts.{parts_in, duties_in, Sized, RuleText, Served, TextComes}
 use Rattle.reader.specs.Entries as entries
 use Rattle.reader.specs.Entries.{Numbered, Enters}
-use Rattle.reader.specs.Steps.{saids}
-use Rattle.reader.proofs.TextLaws.{large_text}
+use Rattle.reader.specs.declared.descent.Source.{Source}
+use Rattle.reader.specs.Steps.{saids, text_of, names_of}
+use Rattle.reader.proofs.TextLaws.{reads_text, large_text}
 
 pub none_duties : (ps : List Part) → duty_number ps 0 ≡ 0
 unfolding duty_number
@@ -85,12 +87,25 @@ leaves {room = room} {copied = copied} {parts} {zeros} {f = f} l is s a b z =
 pub zeros : (store : List Part) {after : List Part} → after ≡ replicate (length store) True → after ≡ replicate (length after) True
 zeros store e = e ∙ ap (λ n. replicate n True) (sym (ap length e ∙ length-replicate (length store) True))
 
--- a text that is refused, and a store that was cleared
-pub refused : {known : Names} {text : List ℕ} (store : List Part) {after : List Part} (r : Result Reading Refusal) (x : Refusal) → IsErrAnd r (λ y. y ≡ x) → RuleText known text (refusal (refusals.number x) (refusals.place x))
-    → after ≡ replicate (length store) True → ReadRule known text after r
-refused store (Ok y) x h w z = absurd h
-refused {known} {text} store (Err y) x h w z = (subst (λ e. RuleText known text (refusal (refusals.number e) (refusals.place e))) (sym h) w, zeros store z)
+-- a store that was cleared behind the table of a rule holds it and zero entries
+pub cleared : {known : Names} {text : List ℕ} {room : ℕ} {table copied parts after : List Part} (rest : List Part) {r : Reading} {f : Rule} → 64 ≤ room → RuleText known text (tree f) → Sized table f (Ok r)
+    → copied ≡ parts → parts ≡ table → length (copied ++ rest) ≡ room → after ≡ take r.parts (copied ++ rest) ++ replicate (length (copied ++ rest) - r.parts) True → Served known text after r
+cleared {known} {text} {room} {table} {copied} {parts} {after} rest {r} {f} l is s a b long e =
+    let n : r.parts ≡ length parts = s.1 ∙ ap length (sym (b ∙ s.4)) in
+    let front : take r.parts (copied ++ rest) ≡ copied = ap (λ k. take k (copied ++ rest)) (n ∙ ap length (sym a)) ∙ take-append_seam copied rest in
+    let back : replicate (length (copied ++ rest) - r.parts) True ≡ drop (length parts) (replicate room True) = ap₂ (λ m k. replicate (m - k) True) long n ∙ sym (drop-replicate (length parts) room True) in
+    subst (λ x. Served known text x r) (sym (e ∙ ap₂ ◌++◌ front back)) (leaves l is s a b refl)
 
 -- a rule that reads and is not measured is too large
 pub too_large : {known : Names} {text : List ℕ} (f : Rule) (e : Refusal) (table : List Part) → length text ≤ 1024 → Reads known 32 (saids text 0) f → Sized table f (Err e) → RuleText known text (refusal (refusals.number e) (refusals.place e))
 too_large {known} {text} f e table h d s = subst (λ x. RuleText known text (refusal (refusals.number x) (refusals.place x))) (sym s.1) (large_text known text f h d s.0)
+
+-- a text that is refused
+pub refused : (s : Source) (table : List Part) (r : Result Reading Refusal) (x : Refusal) → IsErrAnd r (λ y. y ≡ x) → RuleText (names_of s) (text_of s) (refusal (refusals.number x) (refusals.place x)) → TextComes s table r
+refused s table (Ok y) x h w = absurd h
+refused s table (Err y) x h w = subst (λ e. RuleText (names_of s) (text_of s) (refusal (refusals.number e) (refusals.place e))) (sym h) w
+
+-- what a text that reads comes to, by the rule's size
+pub sized_text : (s : Source) (table : List Part) (f : Rule) → length (text_of s) ≤ 1024 → Reads (names_of s) 32 (saids (text_of s) 0) f → (r : Result Reading Refusal) → Sized table f r → TextComes s table r
+sized_text s table f l d (Ok r) z = (f, reads_text (names_of s) (text_of s) f l d z.0, z)
+sized_text s table f l d (Err e) z = too_large f e table l d z

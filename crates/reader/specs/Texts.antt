@@ -62,3 +62,8 @@ WholeComes s table after (Err e) = Stops (names_of s) (start 32) (text_of s) 0 e
 abbrev pub Sized : List Part → Rule → Result Reading Refusal → Type 0
 Sized table f (Ok r) = Small f × (r.parts ≡ parts_in f) × (r.duties ≡ duties_in f) × (r.root ≡ (parts_of f).number) × (table ≡ (parts_of f).table)
 Sized table f (Err e) = (Small f → ⊥) × (e ≡ RuleTooLarge)
+
+-- what a text comes to with its parts in a table
+abbrev pub TextComes : Source → List Part → Result Reading Refusal → Type 0
+TextComes s table (Ok r) = (f : Rule) × RuleText (names_of s) (text_of s) (tree f) × Sized table f (Ok r)
+TextComes s table (Err e) = RuleText (names_of s) (text_of s) (refusal (refusals.number e) (refusals.place e))

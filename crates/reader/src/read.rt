@@ -1,12 +1,12 @@
 // Reading the text of a rule into a lent store of parts.
-ghost use Rattle.std.specs.Prelude.{◌≡◌, ◌<◌, ◌≤◌, [], length, replicate, count_by, Err as Err_of};
+ghost use Rattle.std.specs.Prelude.{◌≡◌, ◌-◌, ◌<◌, ◌≤◌, [], ◌++◌, length, take, replicate, count_by, Err as Err_of};
 ghost use Rattle.terms.specs.declared.refusal.Refusal.TheVariants.{StoreTooShort as store_too_short};
 ghost use Rattle.rules.specs.declared.part.Part.TheVariants.{True as true_part};
 ghost use Rattle.rules.specs.Rule.{Rule};
 ghost use Rattle.rules.specs.Parts.{is_duty};
 ghost use Rattle.reader.specs.Names.{known};
 ghost use Rattle.reader.specs.Entries.{Enters};
-ghost use Rattle.reader.specs.Texts.{ReadRule, Sized};
+ghost use Rattle.reader.specs.Texts.{ReadRule, Sized, TextComes};
 
 use crate::descent::Source;
 use crate::table::{MOST_PARTS, Table};
@@ -35,6 +35,14 @@ fn count_duties(parts: &[Part]) -> usize
     parts.iter().filter(|part| part.is_duty()).count()
 }
 
+// Makes each entry from `from` on the zero entry.
+fn clear(parts: &mut [Part], from: usize)
+    requires { from ≤ length parts.old }
+    ensures { parts.new ≡ take from parts.old ++ replicate (length parts.old - from) true_part }
+{
+    parts[from..].fill(Part::True);
+}
+
 // Makes each entry the zero entry.
 // Kept: names are cleared likewise by a call of their own; both are one `fill`.
 pub fn clear_parts(parts: &mut [Part])
@@ -60,6 +68,18 @@ fn measured(table: &Table, root: Option<u8>) -> Result<Reading, Refusal>
     })
 }
 
+// The rule that a text says, with its parts in a table that has none before.
+fn read_text(source: &Source<'_>, table: &mut Table) -> Result<Reading, Refusal>
+    requires { table.old ≡ [] }
+    ensures { TextComes source.now table.new result }
+{
+    if source.text.len() > MOST_BYTES {
+        return Err(Refusal::TextTooLong);
+    }
+    let root = source.whole(table)?;
+    measured(table, root)
+}
+
 // Reads the text of a rule. The first names are the inputs, the others the outputs. The parts of the rule stand in the
 // first entries of the store, in the order of their completion; the others are zero, and all are where the text is refused.
 pub fn read_rule(
@@ -75,19 +95,24 @@ pub fn read_rule(
     if parts.len() < MOST_PARTS {
         return Err(Refusal::StoreTooShort);
     }
-    clear_parts(parts);
-    if text.len() > MOST_BYTES {
-        return Err(Refusal::TextTooLong);
-    }
     let source = Source {
         text,
         names,
         signals,
     };
     let mut table = Table::new();
-    let root = source.whole(&mut table)?;
-    let reading = measured(&table, root)?;
-    let read = table.parts();
-    parts[..read.len()].copy_from_slice(read);
-    Ok(reading)
+
+    // Kept: the store is cleared behind a refusal, and behind the parts of a rule.
+    match read_text(&source, &mut table) {
+        Ok(reading) => {
+            let read = table.parts();
+            parts[..read.len()].copy_from_slice(read);
+            clear(parts, reading.parts as usize);
+            Ok(reading)
+        }
+        Err(refusal) => {
+            clear(parts, 0);
+            Err(refusal)
+        }
+    }
 }
