@@ -9,13 +9,20 @@ use run::stage::Stage;
 use std::io;
 use terms::call::{Call, Reply, Step};
 
-// What was called and told so far.
-type Log = Vec<(Call, Reply)>;
+// What was called so far, and the lines that were printed for it.
+#[derive(Drop)]
+struct Log {
+    row: Vec<Call>,
+    told: String,
+}
 
 // Plays a run of the game by the book, from the start to the end of the input.
 pub(crate) fn play<'a, G: Game>(rt: &HostRuntime, game: &G, book: &[u8]) -> Result<(), Fault<'a>> {
     let play = Play { game, book };
-    let mut log = Vec::new(rt.alloc());
+    let mut log = Log {
+        row: Vec::new(rt.alloc()),
+        told: String::new(rt.alloc()),
+    };
     let mut stage = Stage::Between(Run::start(&play)?);
     for line in rt.lines(rt.alloc()) {
         let (next, done) = turn(rt, stage, &play, line, &mut log);
@@ -26,7 +33,7 @@ pub(crate) fn play<'a, G: Game>(rt: &HostRuntime, game: &G, book: &[u8]) -> Resu
         }
     }
     let _ = finish(stage, &play);
-    review(rt, &play, log.as_slice())
+    review(rt, &play, &log)
 }
 
 // One line of the input: its call is made and its answer printed.
@@ -57,21 +64,26 @@ fn complain<'a>(rt: &HostRuntime, line: &str) -> Result<(), Fault<'a>> {
 fn answer<'a>(rt: &HostRuntime, log: &mut Log, call: Call, reply: Reply) -> Result<(), Fault<'a>> {
     let told = Told(reply);
     println!(rt; "{told}")?;
-    log.push((call, reply))?;
+    log.row.push(call)?;
+    writeln!(log.told, "{told}")?;
     Ok(())
 }
 
-// Replays the whole row, by the call whose contract is the whole promise, and holds what was told to it.
-fn review<'a, G: Game>(
-    rt: &HostRuntime,
-    play: &Play<'_, G>,
-    log: &[(Call, Reply)],
-) -> Result<(), Fault<'a>> {
-    let row: Vec<Call> = log.iter().map(|(call, _)| *call).collect(rt.alloc())?;
+// Replays the whole row, by the call whose contract is the whole promise, and holds what was told to it, line by line.
+// Kept: lines and not replies, which take more room than all but the longest lines.
+fn review<'a, G: Game>(rt: &HostRuntime, play: &Play<'_, G>, log: &Log) -> Result<(), Fault<'a>> {
+    let row = log.row.as_slice();
     let mut steps = vec![in rt.alloc(); Step::default(); row.len()]?;
-    let _ = replay(play, row.as_slice(), steps.as_mut_slice())?;
-    let mut told = steps.iter().zip(log.iter());
-    if told.all(|(step, (_, reply))| step.reply == *reply) {
+    let _ = replay(play, row, steps.as_mut_slice())?;
+    let mut rest = log.told.as_str();
+    let mut line = String::new(rt.alloc());
+    for step in steps.as_slice() {
+        let told = Told(step.reply);
+        line.clear();
+        writeln!(line, "{told}")?;
+        rest = rest.strip_prefix(line.as_str()).ok_or(Fault::Unkept)?;
+    }
+    if rest.is_empty() {
         Ok(())
     } else {
         Err(Fault::Unkept)
