@@ -93,6 +93,8 @@ pub struct Sheet {
 }
 
 impl Sheet {
+    // A drawing is read without the stack that this takes.
+    #[inline(never)]
     fn compiled<'a>(rt: &HostRuntime, files: RuleFiles<'a>) -> Result<Sheet, Fault<'a>> {
         let texts = RuleTexts::read(rt, files)?;
         let mut names = [Name::default(); 8];
