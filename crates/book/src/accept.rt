@@ -1,37 +1,19 @@
 // Accepting a book: one pass over its bytes and the moves of its game.
-ghost use Rattle.std.specs.Prelude.{◌≡◌, ℕ, ◌^◌, ◌<◌, ◌≤◌, length, take, drop, Decides, MatchResult};
+ghost use Rattle.std.specs.Prelude.{◌≡◌, ℕ, ◌^◌, ◌≤◌, length, take, drop, Decides, MatchResult};
 ghost use Rattle.arena.specs.Arena.{Place};
-ghost use Rattle.terms.specs.Best.{Best};
 ghost use Rattle.terms.specs.Order.{Most, Least};
 ghost use Rattle.arena.specs.Book.{front, header, entry_at, book_length};
 ghost use Rattle.book.specs.Told.{count_told, spoiling_told, answer_told, count_in};
 ghost use Rattle.book.specs.Agreeing.{Follows, Expected, AnswersAgree, AgreesAt, Agrees};
 ghost use Rattle.book.specs.Accepting.{Accepted, Unaccepted};
-ghost use Rattle.book.specs.Picking.{UpTo, Computes};
 
 use crate::told::{answer_told, count_told, entry_at, spoiling_told};
 use game::game::{Game, input_count, output_count};
-use std::cmp::Reverse;
 use terms::count::Count;
 use terms::refusal::Refusal;
 
-// The number below n whose key is the least, the lowest on ties.
-// Kept: this and the two below stand in the solver's `best` and `layout` too, since the check shares no step with the solver.
-fn pick<K: Ord + Drop, F: Fn(u8) -> K>(n: u8, key: F) -> u8
-    requires some { 1 ≤ n }
-    requires callable { (x : ℕ) → x < n → F.pre key x }
-    ensures { (f : ℕ → K) → Computes (F.post key) n f → Best (λ c d. UpTo K.partial_cmp d c) n f result }
-{
-    (0..n)
-        .min_by_key(
-            |x|
-                requires { F.pre key x.now }
-            { key(*x) },
-        )
-        .unwrap_or(0)
-}
-
 // A record's first eight bytes for a count and a spoiling input.
+// Kept: this, the header and the length stand in the solver's `layout` too, since the check shares no step with the solver.
 fn front_of(count: Count, spoiling: Option<u8>) -> [u8; 8]
     ensures { result ≡ front count spoiling }
 {
@@ -63,13 +45,20 @@ impl<G: Game> Judged<'_, G> {
     }
 
     // The output whose move counts most, the lowest on ties.
+    // Kept: a loop of its own, as the input's is, since the check shares no step with the solver, whose picks go by `best`.
     fn best_output(&self, p: u8, x: u8) -> u8
         ensures { Most (2 ^ (G.meaning self.now.game.now).outputs) (λ y. count_in self.now.book.now ((G.meaning self.now.game.now).move p x y)) result }
     {
-        pick(
-            output_count(self.game),
-            |y| Reverse(self.move_count(p, x, y)),
-        )
+        let mut best = 0;
+        let mut high = self.move_count(p, x, 0);
+        for y in 1..output_count(self.game) {
+            let c = self.move_count(p, x, y);
+            if !c.is_at_most(high) {
+                best = y;
+                high = c;
+            }
+        }
+        best
     }
 
     // The count where the answer to x leads.
@@ -83,7 +72,16 @@ impl<G: Game> Judged<'_, G> {
     fn worst_input(&self, p: u8) -> u8
         ensures { Least (2 ^ (G.meaning self.now.game.now).inputs) (λ x. count_in self.now.book.now ((G.meaning self.now.game.now).move p x (answer_told self.now.book.now p x))) result }
     {
-        pick(input_count(self.game), |x| self.answer_count(p, x))
+        let mut worst = 0;
+        let mut low = self.answer_count(p, 0);
+        for x in 1..input_count(self.game) {
+            let c = self.answer_count(p, x);
+            if !low.is_at_most(c) {
+                worst = x;
+                low = c;
+            }
+        }
+        worst
     }
 
     // Whether the answer to x in the record of p is the best, and 0 where there is no such input.
