@@ -13,7 +13,7 @@
  * length is more than SSIZE_MAX bytes. A buffer that is written (book of a solve call, answers of a replay) overlaps no
  * other buffer of the call; what is `const` is only read.
  *
- * Stack. A call on the texts of a rule was measured to take at most 600,000 bytes of stack, and a call on a diagram 150,000.
+ * Stack. A call on the texts of a rule was measured to take at most 620,000 bytes of stack, and a call on a diagram 150,000.
  * This is measured on x86-64 and not proved; CUZZAMBRA_STACK leaves room.
  */
 #ifndef CUZZAMBRA_H
